@@ -1,7 +1,7 @@
-//! Times the locks over each raw lock, for the table of COMPARISON, which `bench/run` prints.
+//! Times the locks over three raw locks, for the table of COMPARISON, which `bench/run` prints.
 //!
 //! `locks ROUNDS`: nanoseconds of a round of each lock on one thread. `four MILLIS`: what four threads make of a mutex over
-//! each raw lock in so long.
+//! each of them in so long.
 #![tactic(auto)]
 
 mod four;

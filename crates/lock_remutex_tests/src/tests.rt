@@ -6,3 +6,8 @@ mod only_level;
 mod owners;
 mod texts;
 mod threads;
+
+use lock_raws::{Monitor, TableArbiter};
+
+/// The core of a `TokenRaw`. A test names the core, since each trait of a named raw lock would be proved anew.
+type Table = Monitor<TableArbiter, HostRuntime>;

@@ -7,8 +7,9 @@ mod texts;
 mod threads;
 mod upgrades;
 
+use crate::tests::Table;
 use lock_modes::Fault;
-use lock_raws::TokenRaw;
+use lock_raws::{LockCore, RawLock};
 use lock_recorder::Recorder;
 use lock_rwlock::RwLock;
 use lock_test_support::answer::equal;
@@ -76,12 +77,20 @@ where
     watch.verdict()
 }
 
-/// One test: each function that names the raw lock would have to be proved anew.
+fn check<C: LockCore>(
+    alloc: Global,
+    makers: [C::Waiter; 4],
+    [pair, number]: [C::Waiter; 2],
+) -> Result<(), Fail> {
+    makers::check::<RawLock<C>>(alloc, makers)?;
+    check_pair(
+        alloc,
+        watched::<RawLock<C>, Nested>(alloc, pair, ((0, 0), 5))?,
+    )?;
+    check_number(alloc, watched::<RawLock<C>, u64>(alloc, number, 5)?)
+}
+
 #[test]
 fn guards_on_one_thread(rt: HostRuntime) -> Result<(), Fail> {
-    let alloc = rt.alloc();
-    makers::check::<TokenRaw<HostRuntime>>(alloc, [rt; 4])?;
-    let pair = watched::<TokenRaw<HostRuntime>, Nested>(alloc, rt, ((0, 0), 5))?;
-    check_pair(alloc, pair)?;
-    check_number(alloc, watched::<TokenRaw<HostRuntime>, u64>(alloc, rt, 5)?)
+    check::<Table>(rt.alloc(), [rt; 4], [rt; 2])
 }

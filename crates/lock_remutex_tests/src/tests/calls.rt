@@ -1,7 +1,8 @@
 //! The raw calls of guards of parts, and of calls that make none.
+use crate::tests::Table;
 use lock_modes::Mode::Exclusive;
 use lock_modes::{Fault, PartyId};
-use lock_raws::TokenRaw;
+use lock_raws::{LockCore, RawLock};
 use lock_recorder::Recorder;
 use lock_remutex::{
     ArcReentrantMutexGuard, MappedReentrantMutexGuard, ReentrantMutex, ReentrantMutexGuard,
@@ -138,15 +139,11 @@ where
     Ok(())
 }
 
-fn check_recorded<R: RawMutexFair + Drop>(
-    alloc: Global,
-    waiter: R::Waiter,
-    party: PartyId,
-) -> Result<(), Fail>
+fn check_recorded<C: LockCore>(alloc: Global, waiter: C::Waiter, party: PartyId) -> Result<(), Fail>
 where
-    R::Guard: Send,
+    C::Token: Send,
 {
-    let raw: Recorder<R> = RawMutex::new(alloc, waiter)?;
+    let raw: Recorder<RawLock<C>> = RawMutex::new(alloc, waiter)?;
     let mut watch = CallWatch::new(raw.log()?);
     check(alloc, raw, &mut watch, party)?;
     watch.verdict()
@@ -154,5 +151,5 @@ where
 
 #[test]
 fn maps_make_no_raw_calls(rt: HostRuntime) -> Result<(), Fail> {
-    check_recorded::<TokenRaw<HostRuntime>>(rt.alloc(), rt, party(1)?)
+    check_recorded::<Table>(rt.alloc(), rt, party(1)?)
 }

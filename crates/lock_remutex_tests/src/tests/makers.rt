@@ -88,8 +88,8 @@ fn makers_of_a_reentrant_lock_lock_nothing(rt: HostRuntime) -> Result<(), Fail> 
 }
 
 /// Leaves out the raw calls, since their record may lack one for want of memory.
-fn without_calls(made: [Made; 5]) -> [(u8, u8); 5] {
-    made.map(|(value, levels, _)| (value, levels))
+fn without_calls(made: [Made; 5]) -> [(&'static str, u8, u8); 5] {
+    named(made).map(|(maker, (value, levels, _))| (maker, value, levels))
 }
 
 #[test]

@@ -1,7 +1,8 @@
 //! Each acquisition of a free lock by a guard that owns a reference to it.
+use crate::tests::Table;
 use lock_modes::{Fault, PartyId};
 use lock_mutex::Mutex;
-use lock_raws::TokenRaw;
+use lock_raws::{LockCore, RawLock};
 use lock_remutex::ReentrantMutex;
 use lock_rwlock::RwLock;
 use lock_test_support::answer::equal;
@@ -127,9 +128,21 @@ where
     equal(ended, [FREED; 4])
 }
 
+/// Each kind of lock.
+fn check_all<C: LockCore<Duration = (), Instant = ()>>(
+    alloc: Global,
+    [mutex, rwlock, reentrant]: [C::Waiter; 3],
+    one: PartyId,
+) -> Result<(), Fail>
+where
+    C::Token: Send,
+{
+    check_mutex::<RawLock<C>>(alloc, mutex)?;
+    check_rwlock::<RawLock<C>>(alloc, rwlock)?;
+    check_reentrant_mutex::<RawLock<C>>(alloc, reentrant, one)
+}
+
 #[test]
 fn each_acquisition_by_an_arc_ends_free(rt: HostRuntime) -> Result<(), Fail> {
-    check_mutex::<TokenRaw<HostRuntime>>(rt.alloc(), rt)?;
-    check_rwlock::<TokenRaw<HostRuntime>>(rt.alloc(), rt)?;
-    check_reentrant_mutex::<TokenRaw<HostRuntime>>(rt.alloc(), rt, party(1)?)
+    check_all::<Table>(rt.alloc(), [rt; 3], party(1)?)
 }

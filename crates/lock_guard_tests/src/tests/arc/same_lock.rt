@@ -1,8 +1,8 @@
 //! A guard returns its own lock.
-use crate::tests::is_refused;
+use crate::tests::{Table, is_refused};
 use lock_modes::{Fault, PartyId};
 use lock_mutex::{ArcMutexGuard, Mutex};
-use lock_raws::TokenRaw;
+use lock_raws::{LockCore, RawLock};
 use lock_remutex::{ArcReentrantMutexGuard, ReentrantMutex};
 use lock_rwlock::{ArcRwLockGuard, FairMode, RwLock};
 use lock_test_support::answer::equal;
@@ -119,10 +119,22 @@ where
     equal(returned_reentrant_mutexes(&lock, parties)?, [true; 2])
 }
 
+/// Each kind of lock.
+fn check_all<C: LockCore>(
+    alloc: Global,
+    [mutex, rwlock, reentrant]: [C::Waiter; 3],
+    parties: (PartyId, PartyId),
+) -> Result<(), Fail>
+where
+    C::Token: Send,
+{
+    check_mutex::<RawLock<C>>(alloc, mutex)?;
+    check_rwlock::<RawLock<C>>(alloc, rwlock)?;
+    check_reentrant_mutex::<RawLock<C>>(alloc, reentrant, parties)
+}
+
 /// A lock that a guard returned refuses a try through the first reference while it is held.
 #[test]
 fn an_arc_guard_returns_its_own_lock(rt: HostRuntime) -> Result<(), Fail> {
-    check_mutex::<TokenRaw<HostRuntime>>(rt.alloc(), rt)?;
-    check_rwlock::<TokenRaw<HostRuntime>>(rt.alloc(), rt)?;
-    check_reentrant_mutex::<TokenRaw<HostRuntime>>(rt.alloc(), rt, two_parties()?)
+    check_all::<Table>(rt.alloc(), [rt; 3], two_parties()?)
 }

@@ -42,7 +42,7 @@ fn makers_of_a_mutex_lock_nothing(rt: HostRuntime) -> Result<(), Fail> {
 #[test]
 fn refused_memory_in_makers_of_a_mutex(rt: HostRuntime) -> Result<(), Fail> {
     let made = made::<TokenRaw<HostRuntime>>(rt.alloc(), [rt; 3]);
-    answers_or_lacks_memory(&rt, made, WANTED)
+    answers_or_lacks_memory(&rt, made.map(named), named(WANTED))
 }
 
 /// How many waiters a new condition variable wakes.

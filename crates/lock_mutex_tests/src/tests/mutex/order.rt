@@ -1,4 +1,4 @@
-//! The order in which a mutex locks and unlocks its raw lock and the value's lock.
+//! The order in which a mutex locks its raw lock and the value's lock.
 use lock_mutex::{Mutex, MutexGuard};
 use lock_recorder::CallLog;
 use lock_test_support::raw_lock::AdmitsAll;
