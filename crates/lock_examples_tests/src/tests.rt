@@ -7,7 +7,6 @@ mod named;
 mod parts;
 mod pool;
 mod queue;
-mod ranked;
 mod registry;
 mod ruled;
 mod seated;
