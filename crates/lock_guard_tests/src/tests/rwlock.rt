@@ -77,7 +77,7 @@ where
     watch.verdict()
 }
 
-fn check<C: LockCore>(
+fn check<C: LockCore<Duration = (), Instant = ()>>(
     alloc: Global,
     makers: [C::Waiter; 4],
     [pair, number]: [C::Waiter; 2],
