@@ -12,15 +12,12 @@ use Rattle.lock_modes.specs.ModeRuns.{has, bag_after}
 use Rattle.lock_modes.specs.Bar.{has_announced}
 use Rattle.lock_modes.specs.Holds.{no_hold}
 use Rattle.lock_plan.specs.Worlds.{joined, bag_on, bar_from}
-use Rattle.lock_plan.proofs.ExchangeTurns.{joined_swap}
+use Rattle.lock_plan.proofs.ExchangeTurns.{bag, joined_swap}
 
 abbrev pub hold_of : List (List Hold) → ℕ → ℕ → Hold
 hold_of hss p l = get_or (get_or hss p []) l no_hold
 
-abbrev bag : ℕ → ℕ → ℕ → Bag
-bag s e u = record { shared = s; exclusive = e; upgradable = u }
-
-same_bag : (a b : Bag) → a.shared ≡ b.shared → a.exclusive ≡ b.exclusive → a.upgradable ≡ b.upgradable → a ≡ b
+pub same_bag : (a b : Bag) → a.shared ≡ b.shared → a.exclusive ≡ b.exclusive → a.upgradable ≡ b.upgradable → a ≡ b
 same_bag a b s e u =
     ap (λ (n : ℕ). bag n a.exclusive a.upgradable) s
     ∙ ap (λ (n : ℕ). bag b.shared n a.upgradable) e

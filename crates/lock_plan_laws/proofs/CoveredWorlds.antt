@@ -1,10 +1,8 @@
 -- In each world of covered programs a party is where its program leads, and no two hold modes that exclude each other.
-use Rattle.std.proofs.Common.{◌≡◌, ℕ, suc, ◌<◌, ◌≤◌, ◌⊎◌, inl, inr, ◌≢◌, zero, Bool, true, false, not, ◌&&◌, if◌then◌else◌, List, [], ◌∷◌, length, map, get_or, set, Option, Some, None, Ok, refl, ap, sym, ◌∙◌, subst, arith}
-use Rattle.std.specs.Prelude.{◌==◌, is_some, nat_lt}
+use Rattle.std.proofs.Common.{◌≡◌, ℕ, ◌<◌, ◌≤◌, ◌⊎◌, inl, inr, ◌≢◌, Bool, true, false, if◌then◌else◌, List, [], ◌∷◌, length, map, get_or, set, Option, Some, None, Ok, refl, ap, sym, ◌∙◌, subst, arith}
+use Rattle.std.specs.Prelude.{◌==◌, nat_lt}
 use Rattle.std.proofs.lemmas.Bool.{cases_eq, cases_lt, eq-eqb, eqb-true, ne_eqb}
 use Rattle.std.proofs.lemmas.List.{get_or-set_same, get_or-set_other, get_or-map, get_or_past, length-set, length-map}
-use Rattle.lock_modes.specs.declared.lock_step.LockStep.{LockStep}
-use Rattle.lock_modes.specs.declared.lock_step.LockStep.TheVariants as lock_step
 use Rattle.lock_modes.specs.declared.hold.Hold.{Hold}
 use Rattle.lock_modes.specs.declared.bag.Bag.{Bag}
 use Rattle.lock_modes.specs.Modes.{empty_bag}
@@ -17,51 +15,27 @@ use Rattle.lock_plan.specs.declared.program.Signal.{Signal as PlanSignal}
 use Rattle.lock_plan.specs.declared.program.ProgramPlace.{ProgramPlace}
 use Rattle.lock_plan.specs.declared.program.Step.{Step}
 use Rattle.lock_plan.specs.declared.turn.Turn.{Turn}
-use Rattle.lock_plan.specs.declared.turn.Turn.TheVariants.{Goes, Announces, Waits, Refused}
+use Rattle.lock_plan.specs.declared.turn.Turn.TheVariants.{Goes, Announces}
 use Rattle.lock_plan.specs.declared.fault.CallFault.{CallFault}
 use Rattle.lock_plan.specs.declared.fault.CallFault.TheVariants.{UnknownLock}
 use Rattle.lock_plan.specs.CallFaults.{call_fault, fault_on}
 use Rattle.lock_plan.specs.Known.{Known, known_of}
-use Rattle.lock_plan.specs.Holds.{announces_itself, admits_step, turn_on}
+use Rattle.lock_plan.specs.Holds.{announces_itself}
 use Rattle.lock_plan.specs.Signals.{lets}
-use Rattle.lock_plan.specs.Worlds.{Stand, no_stand, no_lock, act_of, acts_of, call_in, no_holds, next_in, other_in, bar_from, lock_holds, reply_to, reply_at, at_place, gone, announced_for, after_call, is_goes, either_by, stand_by, put_stand, rows_moved, world_by, world_step, on_from, world_after, first_stand, first_world}
+use Rattle.lock_plan.specs.Worlds.{Stand, no_stand, no_lock, act_of, acts_of, call_in, next_in, other_in, lock_holds, reply_to, reply_at, at_place, gone, announced_for, after_call, is_goes, either_by, stand_by, put_stand, rows_moved, world_by, world_step, world_after, first_stand, first_world}
+use Rattle.lock_plan.proofs.ExchangeBars.{set_cases, nothing_held, on_parts}
+use Rattle.lock_plan.proofs.Landing.{announcing, some_same, goes_is}
+use Rattle.lock_plan.proofs.Moves.{rows_still}
 use Rattle.lock_plan.proofs.Ways.{only_some}
 use Rattle.lock_plan_laws.proofs.KnownStands.{no_fault, known_gone, known_announced, known_passed, known_chosen, known_first}
 use Rattle.lock_plan_laws.proofs.CoveredStands.{IsStandOf, IsCoveredAt, bag_same, fine}
 use Rattle.lock_plan_laws.proofs.Exclusion.{Coexist, beside_none, goes_beside, turned}
 
-chosen : (l a b : Bool) → (if l then Goes else (if a && b then Announces else Waits)) ≡ Announces → a ≡ true
-chosen true a b e = cc
-chosen false true b e = refl
-chosen false false b e = cc
-
-refuses : (b : Bool) → (if b then Refused else Goes) ≡ Announces → ⊥
-refuses true e = cc
-refuses false e = cc
-
-module _ (locks : List PlanLock) (hss : List (List Hold)) (q l : ℕ) where
-  announcing : (a : LockStep) → turn_on (get_or locks l no_lock) (lock_holds hss q l) a ≡ Announces
-      → announces_itself (get_or locks l no_lock) (get_or (get_or hss q []) l no_hold) a ≡ true
-  announcing (lock_step.Modes step) e =
-      chosen (admits_step (get_or locks l no_lock) (lock_holds hss q l) step)
-      (announces_itself (get_or locks l no_lock) (get_or (get_or hss q []) l no_hold) (lock_step.Modes step)) (not (is_some (bar_from 0 l hss))) e
-  announcing lock_step.Announce e = absurd (refuses (is_some (bar_from 0 l hss)) e)
-  announcing lock_step.Withdraw e = cc
-
-some_same : (t u : Turn) → Some t ≡ Some u → t ≡ u
-some_same t u e = cc
-
 stand_same : (t u : Stand) → Some t ≡ Some u → t ≡ u
 stand_same t u e = cc
 
--- an act that is no signal moves no row
-pub rows_still : (a : Act) (way row : ℕ) (w : List Stand) → ((signal : PlanSignal) → a ≡ Signal signal → ⊥)
-    → rows_moved (Some a) way row w ≡ w
-rows_still a way row [] other = refl
-rows_still (Call call) way row (x ∷ w) other = ap (λ (v : List Stand). x ∷ v) (rows_still (Call call) way (suc row) w other)
-rows_still (Try call) way row (x ∷ w) other = ap (λ (v : List Stand). x ∷ v) (rows_still (Try call) way (suc row) w other)
-rows_still (Choose block) way row (x ∷ w) other = ap (λ (v : List Stand). x ∷ v) (rows_still (Choose block) way (suc row) w other)
-rows_still (Signal signal) way row (x ∷ w) other = absurd (other signal refl)
+abbrev pub Lock : List PlanLock → ℕ → PlanLock
+Lock locks l = get_or locks l no_lock
 
 known_lock : (b : Bool) (o : Option CallFault) → (if b then o else Some UnknownLock) ≡ None → o ≡ None
 known_lock true o e = e
@@ -75,14 +49,11 @@ module _ (locks : List PlanLock) (programs : List (List ProgramPlace)) (known : 
   abbrev bag_at : Stand → ℕ → Bag
   bag_at s l = (get_or s.holds l no_hold).bag
 
-  abbrev Lock : ℕ → PlanLock
-  Lock l = get_or locks l no_lock
-
   -- each party is where its program leads, and no two hold what excludes each other
   pub record AreCovered (w : List Stand) : Type 0 where
     pub many : length w ≡ length programs
     pub stand : (p : ℕ) → p < length w → Is p (get_or w p no_stand)
-    pub apart : (l p q : ℕ) → p ≢ q → Coexist (Lock l) (bag_at (get_or w p no_stand) l) (bag_at (get_or w q no_stand) l)
+    pub apart : (l p q : ℕ) → p ≢ q → Coexist (Lock locks l) (bag_at (get_or w p no_stand) l) (bag_at (get_or w q no_stand) l)
 
   module _ (w : List Stand) (all : AreCovered w) (p : ℕ) (lt : p < length w) where
     abbrev s : Stand
@@ -94,7 +65,7 @@ module _ (locks : List PlanLock) (programs : List (List ProgramPlace)) (known : 
     -- the party can stand so next to the others
     record Fits (t : Stand) : Type 0 where
       is : Is p t
-      beside : (l q : ℕ) → p ≢ q → Coexist (Lock l) (bag_at t l) (bag_at (get_or w q no_stand) l)
+      beside : (l q : ℕ) → p ≢ q → Coexist (Lock locks l) (bag_at t l) (bag_at (get_or w q no_stand) l)
 
     fits_same : (t u : Stand) → Some t ≡ Some u → Fits t → Fits u
     fits_same t u e f = subst Fits (stand_same t u e) f
@@ -110,43 +81,31 @@ module _ (locks : List PlanLock) (programs : List (List ProgramPlace)) (known : 
           ∙ ap (λ (x : Stand). bag_at x l) (sym (get_or_past w q no_stand past))
     ]
 
-    -- a step on one lock leaves what is held of the others
-    one_set : (hs : List Hold) (l : ℕ) (h : Hold) (k : ℕ)
-        → (get_or (set hs l h) k no_hold ≡ get_or hs k no_hold) ⊎ ((k ≡ l) × (get_or (set hs l h) k no_hold ≡ h))
-    one_set [] l h k = inl refl
-    one_set (x ∷ hs) zero h zero = inr (refl, refl)
-    one_set (x ∷ hs) zero h (suc k) = inl refl
-    one_set (x ∷ hs) (suc l) h zero = inl refl
-    one_set (x ∷ hs) (suc l) h (suc k) = elim (one_set hs l h k) [
-      | inl same ↦ inl same
-      | inr there ↦ inr (ap suc there.0, there.1)
-    ]
-
     -- after a call that is admitted
     gone_beside : (call : PlanCall) → reply_to locks hss p call ≡ Goes → call_fault locks s.holds call ≡ None
-        → (l q : ℕ) → p ≢ q → Coexist (Lock l) (bag_at (gone s call) l) (bag_at (get_or w q no_stand) l)
+        → (l q : ℕ) → p ≢ q → Coexist (Lock locks l) (bag_at (gone s call) l) (bag_at (get_or w q no_stand) l)
     gone_beside call goes right l q different =
         let step = hold_after (get_or s.holds call.lock no_hold) call.step in
-        elim (one_set s.holds call.lock step l) [
+        elim (set_cases s.holds call.lock l step no_hold) [
           | inl same ↦
-              subst (λ (h : Hold). Coexist (Lock l) h.bag (bag_at (get_or w q no_stand) l)) (sym same) (all.apart l p q different)
+              subst (λ (h : Hold). Coexist (Lock locks l) h.bag (bag_at (get_or w q no_stand) l)) (sym same) (all.apart l p q different)
           | inr there ↦
-              subst (λ (h : Hold). Coexist (Lock l) h.bag (bag_at (get_or w q no_stand) l)) (sym there.1)
-              (subst (λ (k : ℕ). Coexist (Lock k) step.bag (bag_at (get_or w q no_stand) k)) (sym there.0) on_it)
+              subst (λ (h : Hold). Coexist (Lock locks l) h.bag (bag_at (get_or w q no_stand) l)) (sym there.1)
+              (subst (λ (k : ℕ). Coexist (Lock locks k) step.bag (bag_at (get_or w q no_stand) k)) (sym there.0) on_it)
         ]
       where
-        on_it : Coexist (Lock call.lock) (hold_after (get_or s.holds call.lock no_hold) call.step).bag (bag_at (get_or w q no_stand) call.lock)
+        on_it : Coexist (Lock locks call.lock) (hold_after (get_or s.holds call.lock no_hold) call.step).bag (bag_at (get_or w q no_stand) call.lock)
         on_it =
             let k = call.lock in
             let mine : get_or (get_or hss p []) k no_hold ≡ get_or s.holds k no_hold = ap (λ (hs : List Hold). get_or hs k no_hold) own in
-            let no : fault_on (Lock k) (get_or s.holds k no_hold) call.step ≡ None =
-            (known_lock (nat_lt k (length locks)) (fault_on (Lock k) (get_or s.holds k no_hold) call.step) right) in
-            let before : Coexist (Lock k) (get_or (get_or hss p []) k no_hold).bag (get_or (get_or hss q []) k no_hold).bag =
-            subst (λ (b : Bag). Coexist (Lock k) b (get_or (get_or hss q []) k no_hold).bag) (sym (held p k))
-            (subst (λ (b : Bag). Coexist (Lock k) (bag_at s k) b) (sym (held q k)) (all.apart k p q different)) in
-            let after = goes_beside (Lock k) hss p q k different call.step goes (ap (λ (h : Hold). fault_on (Lock k) h call.step) mine ∙ no) before in
-            subst (λ (h : Hold). Coexist (Lock k) (hold_after h call.step).bag (bag_at (get_or w q no_stand) k)) mine
-            (subst (λ (b : Bag). Coexist (Lock k) (hold_after (get_or (get_or hss p []) k no_hold) call.step).bag b) (held q k) after)
+            let no : fault_on (Lock locks k) (get_or s.holds k no_hold) call.step ≡ None =
+            (known_lock (nat_lt k (length locks)) (fault_on (Lock locks k) (get_or s.holds k no_hold) call.step) right) in
+            let before : Coexist (Lock locks k) (get_or (get_or hss p []) k no_hold).bag (get_or (get_or hss q []) k no_hold).bag =
+            subst (λ (b : Bag). Coexist (Lock locks k) b (get_or (get_or hss q []) k no_hold).bag) (sym (held p k))
+            (subst (λ (b : Bag). Coexist (Lock locks k) (bag_at s k) b) (sym (held q k)) (all.apart k p q different)) in
+            let after = goes_beside (Lock locks k) hss p q k different call.step goes (ap (λ (h : Hold). fault_on (Lock locks k) h call.step) mine ∙ no) before in
+            subst (λ (h : Hold). Coexist (Lock locks k) (hold_after h call.step).bag (bag_at (get_or w q no_stand) k)) mine
+            (subst (λ (b : Bag). Coexist (Lock locks k) (hold_after (get_or (get_or hss p []) k no_hold) call.step).bag b) (held q k) after)
 
     o : Is p s
     o = all.stand p lt
@@ -169,14 +128,14 @@ module _ (locks : List PlanLock) (programs : List (List ProgramPlace)) (known : 
     announced_fits call e is = record {
       is = record {
         stands = known_announced locks s o.stands call e
-            (ap (λ (hs : List Hold). announces_itself (Lock call.lock) (get_or hs call.lock no_hold) call.step) (sym own)
-            ∙ announcing locks hss p call.lock call.step
+            (ap (λ (hs : List Hold). announces_itself (Lock locks call.lock) (get_or hs call.lock no_hold) call.step) (sym own)
+            ∙ announcing (Lock locks call.lock) (lock_holds hss p call.lock) call.step
             (some_same (reply_to locks hss p call) Announces is));
         known_is = o.known_is;
         runs = o.runs;
       };
       beside = λ l q different.
-          subst (λ (b : Bag). Coexist (Lock l) b (bag_at (get_or w q no_stand) l)) (sym (bag_same s.holds call.lock l))
+          subst (λ (b : Bag). Coexist (Lock locks l) b (bag_at (get_or w q no_stand) l)) (sym (bag_same s.holds call.lock l))
           (all.apart l p q different);
     }
 
@@ -196,10 +155,6 @@ module _ (locks : List PlanLock) (programs : List (List ProgramPlace)) (known : 
       is = record { stands = known_passed locks s o.stands call a; known_is = o.known_is; runs = o.runs };
       beside = λ l q different. all.apart l p q different;
     }
-
-    goes_is : (t : Turn) → is_goes (Some t) ≡ true → t ≡ Goes
-    goes_is Goes e = refl
-    goes_is t e = cc
 
     try_fits : (call : PlanCall) (goes other : Bool) (t : Stand) → act_of s ≡ Some (Try call) → is_goes (Some (reply_to locks hss p call)) ≡ goes
         → either_by goes other (gone s call) refused ≡ Some t → Fits t
@@ -242,8 +197,8 @@ module _ (locks : List PlanLock) (programs : List (List ProgramPlace)) (known : 
       many = length-set w p t ∙ all.many;
       stand = λ q below. subst (Is q) (sym (set_at t q)) (stand_by_case q (q == p) refl (omega (arith, below, length-set w p t)));
       apart = λ l q r different.
-          subst (λ (x : Stand). Coexist (Lock l) (bag_at x l) (bag_at (get_or (set w p t) r no_stand) l)) (sym (set_at t q))
-          (subst (λ (x : Stand). Coexist (Lock l) (bag_at (if q == p then t else get_or w q no_stand) l) (bag_at x l)) (sym (set_at t r))
+          subst (λ (x : Stand). Coexist (Lock locks l) (bag_at x l) (bag_at (get_or (set w p t) r no_stand) l)) (sym (set_at t q))
+          (subst (λ (x : Stand). Coexist (Lock locks l) (bag_at (if q == p then t else get_or w q no_stand) l) (bag_at x l)) (sym (set_at t r))
           (apart_by l q r different (q == p) (r == p) refl refl));
     }
       where
@@ -252,11 +207,11 @@ module _ (locks : List PlanLock) (programs : List (List ProgramPlace)) (known : 
         stand_by_case q false is below = all.stand q below
 
         apart_by : (l q r : ℕ) → q ≢ r → (b c : Bool) → (q == p) ≡ b → (r == p) ≡ c
-            → Coexist (Lock l) (bag_at (if b then t else get_or w q no_stand) l) (bag_at (if c then t else get_or w r no_stand) l)
+            → Coexist (Lock locks l) (bag_at (if b then t else get_or w q no_stand) l) (bag_at (if c then t else get_or w r no_stand) l)
         apart_by l q r different true true is also = absurd (different (eqb-true q p is ∙ sym (eqb-true r p also)))
         apart_by l q r different true false is also = f.beside l r (λ same. different (eqb-true q p is ∙ same))
         apart_by l q r different false true is also =
-            turned (Lock l) (bag_at t l) (bag_at (get_or w q no_stand) l) (f.beside l q (λ same. different (sym same ∙ sym (eqb-true r p also))))
+            turned (Lock locks l) (bag_at t l) (bag_at (get_or w q no_stand) l) (f.beside l q (λ same. different (sym same ∙ sym (eqb-true r p also))))
         apart_by l q r different false false is also = all.apart l q r different
 
   put_covered : (w v : List Stand) (all : AreCovered w) (p : ℕ) (lt : p < length w) (o : Option Stand)
@@ -293,31 +248,21 @@ module _ (locks : List PlanLock) (programs : List (List ProgramPlace)) (known : 
       let two = only_some (lets (acts_of w) step.way (act_of x)) (world_by locks w step x) v e in
       by_act w v step (act_of x) all refl two.1 (cases_lt step.party (length w))
 
-  on_some : (o : Option (List Stand)) (f : List Stand → Option (List Stand)) (v : List Stand) → on_from o f ≡ Some v
-      → (u : List Stand) × (o ≡ Some u) × (f u ≡ Some v)
-  on_some None f v e = cc
-  on_some (Some u) f v e = (u, refl, e)
-
   pub steps_covered : (steps : List Step) (w v : List Stand) → AreCovered w → world_after locks w steps ≡ Some v → AreCovered v
   steps_covered [] w v all e = let same : w ≡ v = cc in subst AreCovered same all
   steps_covered (step ∷ steps) w v all e =
-      let u = on_some (world_step locks w step) (λ (x : List Stand). world_after locks x steps) v e in
+      let u = on_parts (world_step locks w step) (λ (x : List Stand). world_after locks x steps) v e in
       steps_covered steps u.0 v (step_covered w u.0 step all u.1) u.2
 
   first_is : (p : ℕ) → known_of locks (get_or programs p []) ≡ Ok (known p) → Is p (first_stand locks (get_or programs p []))
   unfolding known_first
   first_is p is = record { stands = known_first locks (get_or programs p []) (known p) is; known_is = refl; runs = refl }
 
-  nothing_held : (ls : List PlanLock) (l : ℕ) → get_or (no_holds ls) l no_hold ≡ no_hold
-  nothing_held [] l = refl
-  nothing_held (x ∷ ls) zero = refl
-  nothing_held (x ∷ ls) (suc l) = nothing_held ls l
-
   first_holds : (p l : ℕ) → bag_at (get_or (first_world locks programs) p no_stand) l ≡ empty_bag
   first_holds p l = elim (cases_lt p (length programs)) [
     | inl lt ↦
         ap (λ (x : Stand). bag_at x l) (get_or-map (first_stand locks) programs p [] no_stand lt)
-        ∙ ap (λ (h : Hold). h.bag) (nothing_held locks l)
+        ∙ ap (λ (h : Hold). h.bag) (nothing_held (length locks) l)
     | inr past ↦
         ap (λ (x : Stand). bag_at x l)
         (get_or_past (first_world locks programs) p no_stand (omega (arith, past, length-map programs (first_stand locks))))
@@ -330,6 +275,6 @@ module _ (locks : List PlanLock) (programs : List (List ProgramPlace)) (known : 
         let below : p < length programs = omega (arith, lt, length-map programs (first_stand locks)) in
         subst (Is p) (sym (get_or-map (first_stand locks) programs p [] no_stand below)) (first_is p (is p below));
     apart = λ l p q different.
-        subst (λ (b : Bag). Coexist (Lock l) (bag_at (get_or (first_world locks programs) p no_stand) l) b) (sym (first_holds q l))
-        (beside_none (Lock l) _ empty_bag refl);
+        subst (λ (b : Bag). Coexist (Lock locks l) (bag_at (get_or (first_world locks programs) p no_stand) l) b) (sym (first_holds q l))
+        (beside_none (Lock locks l) _ empty_bag refl);
   }

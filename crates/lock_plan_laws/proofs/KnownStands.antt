@@ -1,5 +1,5 @@
 -- A party stands at a place with what is known of it, or has announced itself there for a write.
-use Rattle.std.proofs.Common.{◌≡◌, ℕ, zero, suc, ◌+◌, ◌<◌, ◌⊎◌, inl, inr, Bool, true, false, nat_lt, if◌then◌else◌, List, [], ◌∷◌, length, get_or, Option, Some, None, Ok, refl, ap, sym, ◌∙◌, subst, arith}
+use Rattle.std.proofs.Common.{◌≡◌, ℕ, zero, suc, ◌+◌, ◌<◌, ◌⊎◌, inl, inr, Bool, true, false, nat_lt, if◌then◌else◌, List, length, get_or, Option, Some, None, Ok, refl, ap, sym, ◌∙◌, subst, arith}
 use Rattle.std.proofs.lemmas.Bool.{and_parts, false≢true}
 use Rattle.std.proofs.lemmas.List.{length-set, get_or-set_same, get_or_past}
 use Rattle.lock_modes.specs.declared.mode.Mode.{Mode}
@@ -22,10 +22,10 @@ use Rattle.lock_plan.specs.declared.program.ProgramPlace.{ProgramPlace}
 use Rattle.lock_plan.specs.Holds.{is_write, announces_itself}
 use Rattle.lock_plan.specs.CallFaults.{fault_on, call_fault}
 use Rattle.lock_plan.specs.Known.{Known, known_at, known_of}
-use Rattle.lock_plan.specs.Worlds.{Stand, no_place, no_lock, act_in, act_of, call_in, next_in, other_in, is_flag, holds_after, at_place, gone, announced_for, first_stand}
+use Rattle.lock_plan.specs.Worlds.{Stand, no_lock, act_in, act_of, call_in, next_in, other_in, is_flag, holds_after, at_place, gone, announced_for, first_stand}
 use Rattle.lock_plan.proofs.Flags.{IsFlag, flag_is}
 use Rattle.lock_plan.proofs.Held.{IsHeld, few_announced}
-use Rattle.lock_plan.proofs.Walked.{IsWalked, Passed, Leaves, walked_is}
+use Rattle.lock_plan.proofs.Walked.{IsWalked, Passed, Leaves, act_there, walked_is}
 use Rattle.lock_plan.proofs.Announced.{Announces, announces, once, goes_same}
 
 -- the party has announced itself for the write at its place
@@ -42,12 +42,6 @@ pub record IsKnownStand (locks : List PlanLock) (x : Stand) : Type 0 where
   pub known : Known
   pub walked : IsWalked locks x.program (length x.program) known
   pub is : (known_at known x.place ≡ Some x.holds) ⊎ IsAhead locks known x
-
-act_there : (program : List ProgramPlace) (place : ℕ) (a : Act) → act_in program place ≡ Some a
-    → (place < length program) × ((get_or program place no_place).act ≡ a)
-act_there [] place a e = cc
-act_there (x ∷ program) zero a e = (omega arith, cc)
-act_there (x ∷ program) (suc place) a e = let rest = act_there program place a e in (omega (arith, rest.0), rest.1)
 
 same_holds : (a b : List Hold) → Some a ≡ Some b → a ≡ b
 same_holds a b e = cc

@@ -1,6 +1,6 @@
 -- The turn of a party on its machine is its turn in the world, and changes what that turn changes.
 use Rattle.std.proofs.Common.{◌≡◌, ℕ, ◌+◌, Bool, true, false, not, ◌&&◌, ◌||◌, nat_lt, if◌then◌else◌, List, Option, Some, None, option_map, is_some, IsTrue, refl, ap, sym, ◌∙◌, subst}
-use Rattle.std.proofs.lemmas.Bool.{and_parts}
+use Rattle.std.proofs.lemmas.Bool.{and_parts, and_right}
 use Rattle.lock_modes.specs.declared.mode.Mode.{Mode}
 use Rattle.lock_modes.specs.declared.mode.Mode.TheVariants.{Shared, Exclusive, Upgradable}
 use Rattle.lock_modes.specs.declared.mode_step.ModeStep.TheVariants.{Acquire, Release, Change}
@@ -78,10 +78,6 @@ pub record Acts {T : Type 0} (t : MachineTurn T) (m : Machine T) (x : ℕ) (own 
   pub same : t.turn ≡ turn
   pub moved : ByTurn turn (Moved m t.machine x (hold_after own a) (bag_after_step all a))
       (Moved m t.machine x (hold_after own lock_step.Announce) all)
-
-and_false : (b : Bool) → (b && false) ≡ false
-and_false true = refl
-and_false false = refl
 
 and_group : (a b c : Bool) → (a && (b && c)) ≡ ((a && b) && c)
 and_group true b c = refl
@@ -175,8 +171,8 @@ module _ {O T A : Type 0} (meaning : O → Operation T A) (ids : ℕ → PartyId
     upgrade_by true = record { same = refl; moved = changed ids lock m hss p l seen guard from found Exclusive }
     upgrade_by false =
         fits_from (lock_step.Modes (Change from Exclusive)) _ (record { turn = Waits; machine = m }) _ Waits
-        (ap (waiting_by (announce m x)) (and_false lock.bar))
-        (ap (λ (b : Bool). if b && not (is_some (bar_from 0 l hss)) then Announces else Waits) (and_false lock.bar))
+        (ap (waiting_by (announce m x)) (and_right lock.bar false refl))
+        (ap (λ (b : Bool). if b && not (is_some (bar_from 0 l hss)) then Announces else Waits) (and_right lock.bar false refl))
         (record { same = refl; moved = tt })
 
     upgrade_acts : is_upgradable from ≡ true
@@ -270,7 +266,7 @@ module _ {O T A : Type 0} (meaning : O → Operation T A) (ids : ℕ → PartyId
         → Fits (lock_step.Modes (Acquire mode)) (waiting_by (barred_by d) true) (if not own.announced && not d then Announces else Waits)
     waits_barred true is =
         fits_from a _ (record { turn = Waits; machine = m }) _ Waits refl
-        (ap (λ (b : Bool). if b then Announces else Waits) (and_false (not own.announced)))
+        (ap (λ (b : Bool). if b then Announces else Waits) (and_right (not own.announced) false refl))
         (record { same = refl; moved = tt })
     waits_barred false is =
         let none = bar_some ∙ is in

@@ -2,7 +2,7 @@
 use Rattle.std.proofs.Common.{◌≡◌, ℕ, zero, suc, ◌+◌, ◌<◌, Bool, true, false, not, ◌||◌, List, [], ◌∷◌, get_or, Option, Some, None, Result, Ok, Err, refl, ap, sym, ◌∙◌, subst, arith}
 use Rattle.std.specs.Prelude.{◌==◌, nat_lt}
 use Rattle.std.specs.List.{list_all}
-use Rattle.std.proofs.lemmas.Bool.{and_parts, ltb-true, eqb-true}
+use Rattle.std.proofs.lemmas.Bool.{and_parts, ltb-true, eqb-true, not-true}
 use Rattle.lock_modes.specs.declared.mode.Mode.{Mode}
 use Rattle.lock_modes.specs.declared.mode_step.ModeStep.TheVariants.{Acquire}
 use Rattle.lock_modes.specs.declared.lock_step.LockStep.TheVariants.{Modes}
@@ -18,6 +18,7 @@ use Rattle.lock_plan.specs.Known.{PlaceFault, Known, known_at, known_of}
 use Rattle.lock_plan.specs.Worlds.{act_in}
 use Rattle.lock_plan_laws.specs.Ranks.{is_ranked_step, IsCovered, KeepsOrder, IsOrdered}
 use Rattle.lock_plan_laws.specs.OrderChecks.{covers, covers_at, covers_from, is_above, goes_up, keeps_order, keeps_at, keeps_from, keeps_known, is_ordered}
+use Rattle.lock_plan_laws.proofs.BlockedCalls.{call_same}
 
 other_one : (a b : Bool) → (a || b) ≡ true → (a ≡ true → ⊥) → b ≡ true
 other_one true b e never = absurd (never refl)
@@ -38,22 +39,15 @@ module _ (rank : ℕ → ℕ) where
       let two = and_parts ((tokens h.bag == 0) || nat_lt (rank from) (rank lock)) (is_above rank lock (from + 1) hs) e in
       subst (λ (k : ℕ). rank k < rank lock) (omega arith) (above_all lock (from + 1) hs two.1 l some)
 
-all_free : (hs : List Hold) → list_all (λ h. tokens h.bag == 0) hs ≡ true → (l : ℕ) → tokens (get_or hs l no_hold).bag ≡ 0
+pub all_free : (hs : List Hold) → list_all (λ h. tokens h.bag == 0) hs ≡ true → (l : ℕ) → tokens (get_or hs l no_hold).bag ≡ 0
 all_free [] e l = refl
 all_free (h ∷ hs) e zero = eqb-true (tokens h.bag) 0 (and_parts (tokens h.bag == 0) (list_all (λ h. tokens h.bag == 0) hs) e).0
 all_free (h ∷ hs) e (suc l) = all_free hs (and_parts (tokens h.bag == 0) (list_all (λ h. tokens h.bag == 0) hs) e).1 l
 
-is_silent : (b : Bool) → not b ≡ true → b ≡ false
-is_silent true e = cc
-is_silent false e = refl
-
 all_silent : (hs : List Hold) → list_all (λ h. not h.announced) hs ≡ true → (l : ℕ) → (get_or hs l no_hold).announced ≡ false
 all_silent [] e l = refl
-all_silent (h ∷ hs) e zero = is_silent h.announced (and_parts (not h.announced) (list_all (λ h. not h.announced) hs) e).0
+all_silent (h ∷ hs) e zero = not-true h.announced (and_parts (not h.announced) (list_all (λ h. not h.announced) hs) e).0
 all_silent (h ∷ hs) e (suc l) = all_silent hs (and_parts (not h.announced) (list_all (λ h. not h.announced) hs) e).1 l
-
-call_same : (a b : PlanCall) → Some (Call a) ≡ Some (Call b) → a ≡ b
-call_same a b e = cc
 
 pub covered_is : (holds : List Hold) (here : Option Act) → list_all (λ h. not h.announced) holds ≡ true → covers holds here ≡ true
     → IsCovered holds here

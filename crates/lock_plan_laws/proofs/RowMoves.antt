@@ -1,17 +1,15 @@
 -- The rows that an act moves keep what they hold, and scene and world stay tied.
-use Rattle.std.proofs.Common.{◌≡◌, ℕ, zero, suc, ◌+◌, ◌<◌, false, List, [], ◌∷◌, length, map, zip, get_or, set, sum_by, Option, Some, refl, ap, sym, ◌∙◌, subst, arith}
+use Rattle.std.proofs.Common.{◌≡◌, ℕ, suc, ◌+◌, ◌<◌, false, List, [], ◌∷◌, length, map, zip, get_or, set, sum_by, Option, refl, ap, sym, ◌∙◌, subst, arith}
 use Rattle.lock_modes.specs.declared.party.PartyId.{PartyId}
 use Rattle.lock_modes.specs.declared.hold.Hold.{Hold}
 use Rattle.lock_plan.specs.declared.lock.PlanLock.{PlanLock}
 use Rattle.lock_plan.specs.declared.program.Act.{Act}
-use Rattle.lock_plan.specs.declared.program.Act.TheVariants as act
 use Rattle.lock_plan.specs.declared.program.ProgramPlace.{ProgramPlace}
-use Rattle.lock_plan.specs.declared.program.Signal.{Signal}
 use Rattle.lock_plan.specs.Signals.{move_of}
 use Rattle.lock_plan.specs.Worlds.{Stand, no_stand, no_lock, act_of, acts_of, is_flag, at_place, stand_moved, rows_moved}
 use Rattle.lock_plan.proofs.ExchangeBars.{moved_program, moved_holds, rows_keep}
 use Rattle.lock_plan.proofs.ExchangeWalks.{rows_long}
-use Rattle.lock_plan.proofs.Moves.{moved_has}
+use Rattle.lock_plan.proofs.Moves.{moved_has, row_after}
 use Rattle.lock_plan_laws.specs.Scenes.{Scene, row_at, rows_of, scene_at, scene_moved}
 use Rattle.lock_plan_laws.specs.Bridge.{AreDistinct}
 use Rattle.lock_plan_laws.proofs.KnownStands.{IsKnownStand, known_chosen, known_signalled, known_restarted}
@@ -33,18 +31,6 @@ known_moved locks x k way row a =
     moved_has (IsKnownStand locks) x k (known_signalled locks x k) (λ block e. known_chosen locks x k false block e)
     (known_restarted locks x k) a way row
 
--- an act that is no signal moves no row
-pub rows_still : (a : Act) (way row : ℕ) (w : List Stand) → ((signal : Signal) → a ≡ act.Signal signal → ⊥)
-    → rows_moved (Some a) way row w ≡ w
-rows_still a way row [] other = refl
-rows_still (act.Call call) way row (x ∷ w) other =
-    ap (λ (v : List Stand). x ∷ v) (rows_still (act.Call call) way (suc row) w other)
-rows_still (act.Try call) way row (x ∷ w) other =
-    ap (λ (v : List Stand). x ∷ v) (rows_still (act.Try call) way (suc row) w other)
-rows_still (act.Choose block) way row (x ∷ w) other =
-    ap (λ (v : List Stand). x ∷ v) (rows_still (act.Choose block) way (suc row) w other)
-rows_still (act.Signal signal) way row (x ∷ w) other = absurd (other signal refl)
-
 abbrev rows_in : List Stand → List Stand
 rows_in w = map row_at (zip (map (λ x. x.program) w) (map (λ x. x.place) w))
 
@@ -61,18 +47,6 @@ module _ (a : Option Act) (way : ℕ) where
       ap (λ (n : ℕ). n ∷ map (λ (y : Stand). y.place) (rows_moved a way (suc row) (rows_in w))) (same_place x _)
       ∙ ap (λ (ns : List ℕ). (stand_moved x (move_of a way row (act_of x) (is_flag x.program))).place ∷ ns)
       (moved_places (suc row) w)
-
-  -- a row after the act
-  moved_row : (row : ℕ) (w : List Stand) (q : ℕ) → q < length w → get_or (rows_moved a way row w) q no_stand
-      ≡ stand_moved (get_or w q no_stand)
-      (move_of a way (row + q) (act_of (get_or w q no_stand)) (is_flag (get_or w q no_stand).program))
-  moved_row row [] q lt = absurd (omega arith)
-  moved_row row (x ∷ w) zero lt =
-      ap (λ (n : ℕ). stand_moved x (move_of a way n (act_of x) (is_flag x.program))) (omega arith)
-  moved_row row (x ∷ w) (suc q) lt =
-      let y : Stand = get_or w q no_stand in
-      moved_row (suc row) w q (omega (arith, lt))
-      ∙ ap (λ (n : ℕ). stand_moved y (move_of a way n (act_of y) (is_flag y.program))) (omega arith)
 
 module _ {T : Type 0} (ids : ℕ → PartyId) (distinct : AreDistinct ids) (locks : List PlanLock)
     (programs : List (List ProgramPlace)) (w : List Stand) (s : Scene T) (used : ℕ)
@@ -95,7 +69,7 @@ module _ {T : Type 0} (ids : ℕ → PartyId) (distinct : AreDistinct ids) (lock
           ∙ moved_places a way 0 w;
       known = λ q lt.
           let below : q < length w = omega (arith, lt, rows_long a way 0 w) in
-          subst (IsKnownStand locks) (sym (moved_row a way 0 w q below))
+          subst (IsKnownStand locks) (sym (row_after a way 0 w q below))
           (known_moved locks (get_or w q no_stand) (tied.known q below) way (0 + q) a);
       at = λ l lt.
           subst
@@ -115,7 +89,7 @@ module _ {T : Type 0} (ids : ℕ → PartyId) (distinct : AreDistinct ids) (lock
         let v : List Stand = rows_moved a way 0 w in
         let y : Stand = get_or v p no_stand in
         let same : at_place y place y.holds ≡ at_place x place x.holds =
-        ap (λ (z : Stand). at_place z place z.holds) (moved_row a way 0 w p known) ∙ at_moved x _ place in
+        ap (λ (z : Stand). at_place z place z.holds) (row_after a way 0 w p known) ∙ at_moved x _ place in
         let after : Scene T = scene_at (scene_moved programs s a way) p place in
         subst (λ (z : Stand). IsTied ids locks programs (set v p z) after (suc used)) same
         (tied_still ids distinct locks programs v (scene_moved programs s a way) used moved_tied p place

@@ -17,13 +17,14 @@ use Rattle.lock_plan.specs.declared.turn.Turn.TheVariants.{Goes, Announces, Wait
 use Rattle.lock_plan.specs.Signals.{lets}
 use Rattle.lock_plan.specs.Worlds.{Stand, no_stand, no_lock, act_of, acts_of, next_in, other_in, reply_of, turn_by, turn_of, is_goes, at_place, gone, announced_for, after_call, only_if, either_by, stand_by, put_stand, rows_moved, world_step, is_step_turn}
 use Rattle.lock_plan.proofs.Landing.{some_same}
+use Rattle.lock_plan.proofs.Moves.{rows_still}
 use Rattle.lock_plan.proofs.Ways.{only_some}
 use Rattle.lock_plan_laws.specs.MachineTurns.{machine_turn, machine_try, MachineTurn}
 use Rattle.lock_plan_laws.specs.Scenes.{Caller, Scene, scene_at, scene_with, scene_moved, place_by, way_from, way_of, rows_of, HasTurn, HasTry, HasChoice, HasSignal, IsStep}
 use Rattle.lock_plan_laws.specs.Bridge.{AreDistinct}
 use Rattle.lock_plan_laws.proofs.MachineTurns.{ByTurn}
 use Rattle.lock_plan_laws.proofs.Ties.{IsTied}
-use Rattle.lock_plan_laws.proofs.RowMoves.{rows_still, acts_same}
+use Rattle.lock_plan_laws.proofs.RowMoves.{acts_same}
 use Rattle.lock_plan_laws.proofs.Ways.{way_of_try, signal_goes}
 use Rattle.lock_plan_laws.proofs.Steps.{IsSameTurn, IsSameTry, act_same, place_same, way_same, known, guard_of, same_turn, same_try, chosen_tied, signalled_tied}
 

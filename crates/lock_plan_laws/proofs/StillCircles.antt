@@ -1,15 +1,11 @@
 -- Circles never move, and are the sets that the search looks for.
-use Rattle.std.proofs.Common.{◌≡◌, ℕ, true, List, length, map, sym, ◌∙◌, subst}
+use Rattle.std.proofs.Common.{◌≡◌, ℕ, true, length, sym, ◌∙◌, subst}
 use Rattle.std.proofs.lemmas.List.{length-map}
-use Rattle.lock_modes.specs.declared.hold.Hold.{Hold}
 use Rattle.lock_plan.specs.Worlds.{Stand, acts_of}
 use Rattle.lock_plan.specs.Circles.{is_circle_by, some_set}
 use Rattle.lock_plan.proofs.CircleSets.{some_set_from, some_set_at, of_ring}
-use Rattle.lock_plan.proofs.StillCircles.{circle_ring, runs_still, none_still}
+use Rattle.lock_plan.proofs.StillCircles.{holds_of, circle_ring, runs_still, none_still}
 use Rattle.lock_plan_laws.specs.Circles.{CirclesNeverMove, CirclesAreSets}
-
-abbrev holds_of : List Stand → List (List Hold)
-holds_of w = map (λ s. s.holds) w
 
 pub circles_still : CirclesNeverMove
 circles_still locks members w v steps long e there =

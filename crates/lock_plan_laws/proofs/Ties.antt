@@ -21,6 +21,7 @@ use Rattle.lock_plan.specs.declared.program.ProgramPlace.{ProgramPlace}
 use Rattle.lock_plan.specs.Known.{Known, known_of}
 use Rattle.lock_plan.specs.Worlds.{Stand, no_stand, no_lock, joined, bag_on, at_place, first_world}
 use Rattle.lock_plan.proofs.ExchangeBars.{nothing_held}
+use Rattle.lock_plan.proofs.HeldRows.{joined_tokens}
 use Rattle.lock_plan_laws.specs.Scenes.{Scene, scene_with, limit_for, first_scene}
 use Rattle.lock_plan_laws.specs.Bridge.{bag_held_by, FitsMachines, AreDistinct}
 use Rattle.lock_plan_laws.proofs.PartyBags.{tokens-held}
@@ -59,9 +60,6 @@ pub record IsTied {T : Type 0} (ids : ℕ → PartyId) (locks : List PlanLock) (
 abbrev held_by : ℕ → Stand → ℕ
 held_by l x = tokens (get_or x.holds l no_hold).bag
 
-tokens-joined : (a b : Bag) → tokens (joined a b) ≡ tokens a + tokens b
-tokens-joined a b = omega arith
-
 all_few : (l : ℕ) (w : List Stand) → ((q : ℕ) → q < length w → held_by l (get_or w q no_stand) ≤ length (get_or w q no_stand).program)
     → tokens (bag_on l (map (λ x. x.holds) w)) ≤ sum_by length (map (λ x. x.program) w)
 all_few l [] few = omega arith
@@ -72,7 +70,7 @@ all_few l (x ∷ w) few =
       arith,
       here,
       rest,
-      tokens-joined (get_or x.holds l no_hold).bag (bag_on l (map (λ (y : Stand). y.holds) w)),
+      joined_tokens (get_or x.holds l no_hold).bag (bag_on l (map (λ (y : Stand). y.holds) w)),
       sum_by-cons length x.program (map (λ (y : Stand). y.program) w),
     )
 
@@ -87,7 +85,7 @@ all_fewer l (x ∷ w) zero lt few fewer =
       arith,
       fewer,
       rest,
-      tokens-joined (get_or x.holds l no_hold).bag (bag_on l (map (λ (y : Stand). y.holds) w)),
+      joined_tokens (get_or x.holds l no_hold).bag (bag_on l (map (λ (y : Stand). y.holds) w)),
       sum_by-cons length x.program (map (λ (y : Stand). y.program) w),
     )
 all_fewer l (x ∷ w) (suc p) lt few fewer =
@@ -97,7 +95,7 @@ all_fewer l (x ∷ w) (suc p) lt few fewer =
       arith,
       here,
       rest,
-      tokens-joined (get_or x.holds l no_hold).bag (bag_on l (map (λ (y : Stand). y.holds) w)),
+      joined_tokens (get_or x.holds l no_hold).bag (bag_on l (map (λ (y : Stand). y.holds) w)),
       sum_by-cons length x.program (map (λ (y : Stand). y.program) w),
     )
 

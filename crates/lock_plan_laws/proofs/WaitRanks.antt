@@ -26,12 +26,13 @@ use Rattle.lock_plan.specs.Holds.{is_write, lines_up, admits_step}
 use Rattle.lock_plan.specs.CallFaults.{fault_on}
 use Rattle.lock_plan.specs.Checks.{fits_machine, fits_kind}
 use Rattle.lock_plan.specs.Known.{Known, known_of}
-use Rattle.lock_plan.specs.Worlds.{Stand, no_stand, no_lock, act_in, act_of, acts_of, bag_on, bar_from, lock_holds, reply_at, reply_to, turn_by, turn_of, is_server, is_due, is_refused_turn, is_step_turn, some_below, line_of, waits_for, has_waiter, on_lock, goes_on, is_stuck, is_refused, is_stop, first_world}
+use Rattle.lock_plan.specs.Worlds.{Stand, no_stand, act_in, act_of, acts_of, bag_on, bar_from, lock_holds, reply_at, reply_to, turn_by, turn_of, is_server, is_due, is_refused_turn, is_step_turn, some_below, line_of, waits_for, has_waiter, on_lock, goes_on, is_stuck, is_refused, is_stop, first_world}
 use Rattle.lock_plan.proofs.CircleSearch.{within_at}
 use Rattle.lock_plan.proofs.CircleSets.{IsRing, ring_of, some_set_at, below_none, below_each, member_within}
 use Rattle.lock_plan_laws.specs.WaitRanks.{excludes, may_hold_up, CanMeet, Wait, IsWaitOf, IsLenient, HasWaitRanks, RankedPlansNeverDeadlock, RankedMachinesNeverStop}
+use Rattle.lock_plan_laws.proofs.Columns.{hold_of}
 use Rattle.lock_plan_laws.proofs.CoveredStands.{IsCoveredAt, IsFine, fine}
-use Rattle.lock_plan_laws.proofs.CoveredWorlds.{AreCovered, steps_covered, starts_covered}
+use Rattle.lock_plan_laws.proofs.CoveredWorlds.{Lock, AreCovered, steps_covered, starts_covered}
 use Rattle.lock_plan_laws.proofs.Exclusion.{not_excluded, one_within, right_kind}
 use Rattle.lock_plan_laws.proofs.Fits.{fits_by}
 use Rattle.lock_plan_laws.proofs.MachineStops.{never, no_deadlocks}
@@ -58,18 +59,12 @@ module _ (rank : ℕ → ℕ → ℕ) (strict : ℕ → Bool) (servers : List Bo
   abbrev stand : ℕ → Stand
   stand p = get_or w p no_stand
 
-  abbrev Lock : ℕ → PlanLock
-  Lock l = get_or locks l no_lock
-
-  abbrev held_by : List (List Hold) → ℕ → ℕ → Hold
-  held_by hss p l = get_or (get_or hss p []) l no_hold
-
   fine_at : (p : ℕ) → p < length w → IsFine locks (plan.known p) (stand p)
   fine_at p lt =
       let within : p < length programs = omega (arith, lt, all.many) in
       fine locks (stand p) (plan.known p) (get_or programs p []) (all.stand p lt) (λ place hs is. plan.covered p place hs within is)
 
-  fit_at : (l : ℕ) → l < length locks → fits_machine (Lock l) ≡ true
+  fit_at : (l : ℕ) → l < length locks → fits_machine (Lock locks l) ≡ true
   fit_at l lt = fits_at locks l plan.machines lt
 
   -- holds of some parties, of which all that hold or announce are in the set
@@ -87,7 +82,7 @@ module _ (rank : ℕ → ℕ → ℕ) (strict : ℕ → Bool) (servers : List Bo
       mode : Mode
       here : act_of (stand p) ≡ Some (Call call)
       acquires : call.step ≡ lock_step.Modes (Acquire mode)
-      refused : admits_step (Lock call.lock) (lock_holds hss p call.lock) (Acquire mode) ≡ false
+      refused : admits_step (Lock locks call.lock) (lock_holds hss p call.lock) (Acquire mode) ≡ false
 
     -- the party waits for a lock that does not admit some party that waits for it, which may be this one
     record HeldUp (p : ℕ) : Type 0 where
@@ -99,12 +94,12 @@ module _ (rank : ℕ → ℕ → ℕ) (strict : ℕ → Bool) (servers : List Bo
       within : In waiter
       blocked : Blocked waiter
       same : blocked.call.lock ≡ call.lock
-      itself : lines_up (Lock call.lock) call.step ≡ false → waiter ≡ p
+      itself : lines_up (Lock locks call.lock) call.step ≡ false → waiter ≡ p
 
     blocked_by : (p : ℕ) → In p → (a : Act) → act_of (stand p) ≡ Some a
         → is_step_turn (turn_by (acts_of w) (Some a) (reply_at locks hss p (Some a))) ≡ false → Blocked p
     blocked_by p in_it (Call call) e idle =
-        let b = step_blocks (Lock call.lock) hss p call.lock call.step ((fine_at p (scope.within p in_it)).ranked call e) idle in
+        let b = step_blocks (Lock locks call.lock) hss p call.lock call.step ((fine_at p (scope.within p in_it)).ranked call e) idle in
         record { call = call; mode = b.0; here = e; acquires = b.1; refused = b.2 }
     blocked_by p in_it (Try call) e idle = cc
     blocked_by p in_it (Choose block) e idle = cc
@@ -127,33 +122,33 @@ module _ (rank : ℕ → ℕ → ℕ) (strict : ℕ → Bool) (servers : List Bo
     -- the lock of a blocked call is one of the plan, of a kind that has the call
     record IsRight (b_lock : ℕ) (mode : Mode) : Type 0 where
       below : b_lock < length locks
-      kind : (is_exclusive mode || is_rwlock (Lock b_lock).kind) ≡ true
-      fits : fits_kind (Lock b_lock).kind (Lock b_lock).limit (Lock b_lock).bar ≡ true
+      kind : (is_exclusive mode || is_rwlock (Lock locks b_lock).kind) ≡ true
+      fits : fits_kind (Lock locks b_lock).kind (Lock locks b_lock).limit (Lock locks b_lock).bar ≡ true
 
     right_call : (p : ℕ) → In p → (b : Blocked p) → IsRight b.call.lock b.mode
     right_call p in_it b =
         let l = b.call.lock in
         let own = get_or (stand p).holds l no_hold in
-        let no = no_unknown (nat_lt l (length locks)) (fault_on (Lock l) own b.call.step) ((fine_at p (scope.within p in_it)).right b.call b.here) in
+        let no = no_unknown (nat_lt l (length locks)) (fault_on (Lock locks l) own b.call.step) ((fine_at p (scope.within p in_it)).right b.call b.here) in
         let below : l < length locks = ltb-true l (length locks) no.0 in
-        let no_fault : fault_on (Lock l) own (lock_step.Modes (Acquire b.mode)) ≡ None = ap (fault_on (Lock l) own) (sym b.acquires) ∙ no.1 in
+        let no_fault : fault_on (Lock locks l) own (lock_step.Modes (Acquire b.mode)) ≡ None = ap (fault_on (Lock locks l) own) (sym b.acquires) ∙ no.1 in
         record {
           below = below;
-          kind = (right_kind (is_exclusive b.mode || is_rwlock (Lock l).kind) _ no_fault).0;
-          fits = (and_parts (fits_kind (Lock l).kind (Lock l).limit (Lock l).bar) _ (fit_at l below)).0;
+          kind = (right_kind (is_exclusive b.mode || is_rwlock (Lock locks l).kind) _ no_fault).0;
+          fits = (and_parts (fits_kind (Lock locks l).kind (Lock locks l).limit (Lock locks l).bar) _ (fit_at l below)).0;
         }
 
     -- a free lock admits each mode that it has, but for its bar
     open_if_free : (p l : ℕ) (mode : Mode) → IsRight l mode → tokens (bag_on l hss) ≡ 0
-        → (if is_reentrant (Lock l).kind then tokens (bag_on l hss) == tokens (held_by hss p l).bag else admits (Lock l).limit (bag_on l hss) mode) ≡ true
-    open_if_free p l mode right none = by (is_reentrant (Lock l).kind)
+        → (if is_reentrant (Lock locks l).kind then tokens (bag_on l hss) == tokens (hold_of hss p l).bag else admits (Lock locks l).limit (bag_on l hss) mode) ≡ true
+    open_if_free p l mode right none = by (is_reentrant (Lock locks l).kind)
       where
-        by : (r : Bool) → (if r then tokens (bag_on l hss) == tokens (held_by hss p l).bag else admits (Lock l).limit (bag_on l hss) mode) ≡ true
+        by : (r : Bool) → (if r then tokens (bag_on l hss) == tokens (hold_of hss p l).bag else admits (Lock locks l).limit (bag_on l hss) mode) ≡ true
         by true =
             let part = one_within hss l p in
-            eq-eqb (tokens (bag_on l hss)) (tokens (held_by hss p l).bag) (omega (arith, none, part.shared, part.exclusive, part.upgradable))
+            eq-eqb (tokens (bag_on l hss)) (tokens (hold_of hss p l).bag) (omega (arith, none, part.shared, part.exclusive, part.upgradable))
         by false =
-            free_admits (Lock l).limit (bag_on l hss) mode none (by_kind (Lock l).kind (Lock l).limit (Lock l).bar mode right.kind right.fits)
+            free_admits (Lock locks l).limit (bag_on l hss) mode none (by_kind (Lock locks l).kind (Lock locks l).limit (Lock locks l).bar mode right.kind right.fits)
 
     -- a free lock refuses a party only by the bar of another one
     barred : (p : ℕ) (b : Blocked p) → IsRight b.call.lock b.mode → tokens (bag_on b.call.lock hss) ≡ 0
@@ -170,7 +165,7 @@ module _ (rank : ℕ → ℕ → ℕ) (strict : ℕ → Bool) (servers : List Bo
       here : act_of (stand who) ≡ Some (Call call)
       on : call.lock ≡ l
       writes : is_write call.step ≡ true
-      bars : (Lock l).bar ≡ true
+      bars : (Lock locks l).bar ≡ true
 
     announcer : (l q : ℕ) → bar_from 0 l hss ≡ Some q → Announcer l
     announcer l q e =
@@ -188,11 +183,11 @@ module _ (rank : ℕ → ℕ → ℕ) (strict : ℕ → Bool) (servers : List Bo
           here = a.here;
           on = a.on;
           writes = a.writes;
-          bars = ap (λ (k : ℕ). (Lock k).bar) (sym a.on) ∙ a.bars;
+          bars = ap (λ (k : ℕ). (Lock locks k).bar) (sym a.on) ∙ a.bars;
         }
 
     -- a lock without a bar is not barred
-    no_bar : (l p : ℕ) (mode : Mode) → (Lock l).bar ≡ false → bar_lets_pass (bar_from 0 l hss) p mode ≡ true
+    no_bar : (l p : ℕ) (mode : Mode) → (Lock locks l).bar ≡ false → bar_lets_pass (bar_from 0 l hss) p mode ≡ true
     no_bar l p mode none = by (bar_from 0 l hss) refl
       where
         by : (o : Option ℕ) → bar_from 0 l hss ≡ o → bar_lets_pass o p mode ≡ true
@@ -210,10 +205,10 @@ module _ (rank : ℕ → ℕ → ℕ) (strict : ℕ → Bool) (servers : List Bo
           let a = announcer l bar.0 bar.1 in
           let q = a.who in
           let h = held q a.in_it (Call a.call) a.here in
-          let plain : lines_up (Lock h.call.lock) h.call.step ≡ false =
-          ap (λ (k : PlanCall). lines_up (Lock k.lock) k.step) (call_same h.call a.call (sym h.here ∙ a.here))
-          ∙ ap (λ (k : ℕ). lines_up (Lock k) a.call.step) a.on
-          ∙ no_line (Lock l) a.call.step (fit_at l right.below) a.bars in
+          let plain : lines_up (Lock locks h.call.lock) h.call.step ≡ false =
+          ap (λ (k : PlanCall). lines_up (Lock locks k.lock) k.step) (call_same h.call a.call (sym h.here ∙ a.here))
+          ∙ ap (λ (k : ℕ). lines_up (Lock locks k) a.call.step) a.on
+          ∙ no_line (Lock locks l) a.call.step (fit_at l right.below) a.bars in
           let itself : h.waiter ≡ q = h.itself plain in
           let c : Blocked q = subst Blocked itself h.blocked in
           let same : a.call ≡ c.call = call_same a.call c.call (sym a.here ∙ c.here) in
@@ -229,47 +224,47 @@ module _ (rank : ℕ → ℕ → ℕ) (strict : ℕ → Bool) (servers : List Bo
       -- a party that holds what may refuse the call
       record Holder (p l : ℕ) (mode : Mode) : Type 0 where
         who : ℕ
-        some : 0 < tokens (held_by hss who l).bag
-        refuses : (strict l || not (admits (Lock l).limit (held_by hss who l).bag mode)) ≡ true
-        not_owner : is_reentrant (Lock l).kind ≡ true → who ≢ p
+        some : 0 < tokens (hold_of hss who l).bag
+        refuses : (strict l || not (admits (Lock locks l).limit (hold_of hss who l).bag mode)) ≡ true
+        not_owner : is_reentrant (Lock locks l).kind ≡ true → who ≢ p
 
       -- a call that does not line up is blocked itself
-      blocked_itself : (p : ℕ) (h : HeldUp p) → (Lock h.call.lock).fair && not (is_reentrant (Lock h.call.lock).kind) ≡ false
-          → admits_step (Lock h.call.lock) (lock_holds hss p h.call.lock) (Acquire h.mode) ≡ false
+      blocked_itself : (p : ℕ) (h : HeldUp p) → (Lock locks h.call.lock).fair && not (is_reentrant (Lock locks h.call.lock).kind) ≡ false
+          → admits_step (Lock locks h.call.lock) (lock_holds hss p h.call.lock) (Acquire h.mode) ≡ false
       blocked_itself p h plain =
-          let lines : lines_up (Lock h.call.lock) h.call.step ≡ false = ap (lines_up (Lock h.call.lock)) h.acquires ∙ plain in
+          let lines : lines_up (Lock locks h.call.lock) h.call.step ≡ false = ap (lines_up (Lock locks h.call.lock)) h.acquires ∙ plain in
           let c : Blocked p = subst Blocked (h.itself lines) h.blocked in
           let same : c.call ≡ h.call = call_same c.call h.call (sym c.here ∙ h.here) in
           let mode : c.mode ≡ h.mode = mode_same c.mode h.mode (sym c.acquires ∙ ap (λ (k : PlanCall). k.step) same ∙ h.acquires) in
-          subst (λ (m : Mode). admits_step (Lock h.call.lock) (lock_holds hss p h.call.lock) (Acquire m) ≡ false) mode
-          (subst (λ (k : PlanCall). admits_step (Lock k.lock) (lock_holds hss p k.lock) (Acquire c.mode) ≡ false) same c.refused)
+          subst (λ (m : Mode). admits_step (Lock locks h.call.lock) (lock_holds hss p h.call.lock) (Acquire m) ≡ false) mode
+          (subst (λ (k : PlanCall). admits_step (Lock locks k.lock) (lock_holds hss p k.lock) (Acquire c.mode) ≡ false) same c.refused)
         where
           mode_same : (m n : Mode) → lock_step.Modes (Acquire m) ≡ lock_step.Modes (Acquire n) → m ≡ n
           mode_same m n e = cc
 
       -- the owner of a reentrant lock is another party
-      owner : (p : ℕ) (h : HeldUp p) → In p → IsRight h.call.lock h.mode → is_reentrant (Lock h.call.lock).kind ≡ true → Holder p h.call.lock h.mode
+      owner : (p : ℕ) (h : HeldUp p) → In p → IsRight h.call.lock h.mode → is_reentrant (Lock locks h.call.lock).kind ≡ true → Holder p h.call.lock h.mode
       owner p h in_it right r =
           let l = h.call.lock in
-          let is = reentrant_is (Lock l).kind (Lock l).limit (Lock l).bar h.mode r right.kind right.fits in
-          let plain : (Lock l).fair && not (is_reentrant (Lock l).kind) ≡ false =
-          and_right (Lock l).fair (not (is_reentrant (Lock l).kind)) (not_from_true _ r) in
+          let is = reentrant_is (Lock locks l).kind (Lock locks l).limit (Lock locks l).bar h.mode r right.kind right.fits in
+          let plain : (Lock locks l).fair && not (is_reentrant (Lock locks l).kind) ≡ false =
+          and_right (Lock locks l).fair (not (is_reentrant (Lock locks l).kind)) (not_from_true _ r) in
           let refused = blocked_itself p h plain in
-          let more : (tokens (bag_on l hss) == tokens (held_by hss p l).bag) ≡ false =
-          sym (if_true (is_reentrant (Lock l).kind) (tokens (bag_on l hss) == tokens (held_by hss p l).bag) (admits (Lock l).limit (bag_on l hss) h.mode) r)
+          let more : (tokens (bag_on l hss) == tokens (hold_of hss p l).bag) ≡ false =
+          sym (if_true (is_reentrant (Lock locks l).kind) (tokens (bag_on l hss) == tokens (hold_of hss p l).bag) (admits (Lock locks l).limit (bag_on l hss) h.mode) r)
           ∙ second_false (bar_lets_pass (bar_from 0 l hss) p h.mode) _ (no_bar l p h.mode is.0) refused in
-          let other = some_other hss l p (eqb-false (tokens (bag_on l hss)) (tokens (held_by hss p l).bag) more) in
+          let other = some_other hss l p (eqb-false (tokens (bag_on l hss)) (tokens (hold_of hss p l).bag) more) in
           record {
             who = other.0;
             some = other.2;
-            refuses = or_right (strict l) (not (admits (Lock l).limit (held_by hss other.0 l).bag h.mode))
-                (not_from_false (admits (Lock l).limit (held_by hss other.0 l).bag h.mode)
-                (ap (admits (Lock l).limit (held_by hss other.0 l).bag) is.1 ∙ not_zero (tokens (held_by hss other.0 l).bag) other.2));
+            refuses = or_right (strict l) (not (admits (Lock locks l).limit (hold_of hss other.0 l).bag h.mode))
+                (not_from_false (admits (Lock locks l).limit (hold_of hss other.0 l).bag h.mode)
+                (ap (admits (Lock locks l).limit (hold_of hss other.0 l).bag) is.1 ∙ not_zero (tokens (hold_of hss other.0 l).bag) other.2));
             not_owner = λ is_owner. other.1;
           }
 
       -- any holder of a strict lock
-      any_holder : (p : ℕ) (h : HeldUp p) → is_reentrant (Lock h.call.lock).kind ≡ false → strict h.call.lock ≡ true → Holder p h.call.lock h.mode
+      any_holder : (p : ℕ) (h : HeldUp p) → is_reentrant (Lock locks h.call.lock).kind ≡ false → strict h.call.lock ≡ true → Holder p h.call.lock h.mode
       any_holder p h plain is_strict =
           let l = h.call.lock in
           let on = ap (λ (k : ℕ). tokens (bag_on k hss)) h.same in
@@ -280,49 +275,49 @@ module _ (rank : ℕ → ℕ → ℕ) (strict : ℕ → Bool) (servers : List Bo
                 record {
                   who = q.0;
                   some = q.1;
-                  refuses = or_left (strict l) (not (admits (Lock l).limit (held_by hss q.0 l).bag h.mode)) is_strict;
+                  refuses = or_left (strict l) (not (admits (Lock locks l).limit (hold_of hss q.0 l).bag h.mode)) is_strict;
                   not_owner = λ r. absurd (false≢true (sym plain ∙ r));
                 }
           ]
 
       -- a party in the set reads no more than what is known of its program
-      each_reads : (l : ℕ) (k : IsLenient (Lock l) (length programs) plan.known l) (q : ℕ) → readers (held_by hss q l).bag ≤ k.most
-      each_reads l k q = elim (cases_lt 0 (tokens (held_by hss q l).bag)) [
+      each_reads : (l : ℕ) (k : IsLenient (Lock locks l) (length programs) plan.known l) (q : ℕ) → readers (hold_of hss q l).bag ≤ k.most
+      each_reads l k q = elim (cases_lt 0 (tokens (hold_of hss q l).bag)) [
         | inr none ↦ omega (arith, none)
         | inl some ↦
             let in_it = scope.holders q l some in
             let lt = scope.within q in_it in
             let f = fine_at q lt in
             let most = k.each q (stand q).place f.before (omega (arith, lt, all.many)) f.is in
-            let same : readers (held_by hss q l).bag ≡ readers (get_or f.before l no_hold).bag =
+            let same : readers (hold_of hss q l).bag ≡ readers (get_or f.before l no_hold).bag =
             ap (λ (hs : List Hold). readers (get_or hs l no_hold).bag) (scope.own q in_it) ∙ ap (λ (b : Bag). readers b) (f.bags l) in
             omega (arith, most, same)
       ]
 
       -- a holder of a lenient lock that alone refuses the call
-      refusing_holder : (p : ℕ) (h : HeldUp p) → is_reentrant (Lock h.call.lock).kind ≡ false → IsLenient (Lock h.call.lock) (length programs) plan.known h.call.lock
+      refusing_holder : (p : ℕ) (h : HeldUp p) → is_reentrant (Lock locks h.call.lock).kind ≡ false → IsLenient (Lock locks h.call.lock) (length programs) plan.known h.call.lock
           → Holder p h.call.lock h.mode
       refusing_holder p h plain k =
           let l = h.call.lock in
-          let refused = blocked_itself p h (and_left (Lock l).fair (not (is_reentrant (Lock l).kind)) k.no_line) in
-          let no : admits (Lock l).limit (bag_on l hss) h.mode ≡ false =
-          sym (if_false (is_reentrant (Lock l).kind) (tokens (bag_on l hss) == tokens (held_by hss p l).bag) (admits (Lock l).limit (bag_on l hss) h.mode) plain)
+          let refused = blocked_itself p h (and_left (Lock locks l).fair (not (is_reentrant (Lock locks l).kind)) k.no_line) in
+          let no : admits (Lock locks l).limit (bag_on l hss) h.mode ≡ false =
+          sym (if_false (is_reentrant (Lock locks l).kind) (tokens (bag_on l hss) == tokens (hold_of hss p l).bag) (admits (Lock locks l).limit (bag_on l hss) h.mode) plain)
           ∙ second_false (bar_lets_pass (bar_from 0 l hss) p h.mode) _ (no_bar l p h.mode k.no_bar) refused in
           let reads = few_readers hss l k.most (each_reads l k) in
           let fewer : length hss * k.most ≤ length programs * k.most = mul-le-mul_right k.most (omega (arith, scope.long, all.many)) in
-          let q = refusing hss l (Lock l).limit (omega (arith, reads, fewer, k.room)) h.mode no in
+          let q = refusing hss l (Lock locks l).limit (omega (arith, reads, fewer, k.room)) h.mode no in
           record {
             who = q.0;
             some = q.1;
-            refuses = or_right (strict l) (not (admits (Lock l).limit (held_by hss q.0 l).bag h.mode))
-                (not_from_false (admits (Lock l).limit (held_by hss q.0 l).bag h.mode) q.2);
+            refuses = or_right (strict l) (not (admits (Lock locks l).limit (hold_of hss q.0 l).bag h.mode))
+                (not_from_false (admits (Lock locks l).limit (hold_of hss q.0 l).bag h.mode) q.2);
             not_owner = λ r. absurd (false≢true (sym plain ∙ r));
           }
 
       holder : (p : ℕ) → In p → (h : HeldUp p) → Holder p h.call.lock h.mode
       holder p in_it h =
           let right = right_here p in_it h in
-          elim (cases_Bool (is_reentrant (Lock h.call.lock).kind)) [
+          elim (cases_Bool (is_reentrant (Lock locks h.call.lock).kind)) [
             | inl r ↦ owner p h in_it right r
             | inr plain ↦ elim (cases_Bool (strict h.call.lock)) [
               | inl is_strict ↦ any_holder p h plain is_strict
@@ -334,13 +329,13 @@ module _ (rank : ℕ → ℕ → ℕ) (strict : ℕ → Bool) (servers : List Bo
           right_here p in_it h =
               let l = h.call.lock in
               let own = get_or (stand p).holds l no_hold in
-              let no = no_unknown (nat_lt l (length locks)) (fault_on (Lock l) own h.call.step) ((fine_at p (scope.within p in_it)).right h.call h.here) in
+              let no = no_unknown (nat_lt l (length locks)) (fault_on (Lock locks l) own h.call.step) ((fine_at p (scope.within p in_it)).right h.call h.here) in
               let below : l < length locks = ltb-true l (length locks) no.0 in
-              let no_fault : fault_on (Lock l) own (lock_step.Modes (Acquire h.mode)) ≡ None = ap (fault_on (Lock l) own) (sym h.acquires) ∙ no.1 in
+              let no_fault : fault_on (Lock locks l) own (lock_step.Modes (Acquire h.mode)) ≡ None = ap (fault_on (Lock locks l) own) (sym h.acquires) ∙ no.1 in
               record {
                 below = below;
-                kind = (right_kind (is_exclusive h.mode || is_rwlock (Lock l).kind) _ no_fault).0;
-                fits = (and_parts (fits_kind (Lock l).kind (Lock l).limit (Lock l).bar) _ (fit_at l below)).0;
+                kind = (right_kind (is_exclusive h.mode || is_rwlock (Lock locks l).kind) _ no_fault).0;
+                fits = (and_parts (fits_kind (Lock locks l).kind (Lock locks l).limit (Lock locks l).bar) _ (fit_at l below)).0;
               }
 
       -- the party as a wait
@@ -358,9 +353,9 @@ module _ (rank : ℕ → ℕ → ℕ) (strict : ℕ → Bool) (servers : List Bo
       -- what two parties of the world hold at their places
       can_meet : (p q : ℕ) (lt : p < length w) (below : q < length w) → p ≢ q → CanMeet locks (fine_at p lt).before (fine_at q below).before
       can_meet p q lt below different l =
-          subst (λ (b : Bag). excludes (Lock l) b (get_or (fine_at q below).before l no_hold).bag ≡ false) ((fine_at p lt).bags l)
-          (subst (λ (b : Bag). excludes (Lock l) (get_or (stand p).holds l no_hold).bag b ≡ false) ((fine_at q below).bags l)
-          (not_excluded (Lock l) (get_or (stand p).holds l no_hold).bag (get_or (stand q).holds l no_hold).bag (all.apart l p q different)))
+          subst (λ (b : Bag). excludes (Lock locks l) b (get_or (fine_at q below).before l no_hold).bag ≡ false) ((fine_at p lt).bags l)
+          (subst (λ (b : Bag). excludes (Lock locks l) (get_or (stand p).holds l no_hold).bag b ≡ false) ((fine_at q below).bags l)
+          (not_excluded (Lock locks l) (get_or (stand p).holds l no_hold).bag (get_or (stand q).holds l no_hold).bag (all.apart l p q different)))
 
       -- one that waits at a higher rank
       record Next (p : ℕ) : Type 0 where
@@ -373,7 +368,7 @@ module _ (rank : ℕ → ℕ → ℕ) (strict : ℕ → Bool) (servers : List Bo
       next_by p in_it h f there None e =
           let q = f.who in
           let none = (fine_at q (scope.within q there)).ended e h.call.lock in
-          let same : tokens (held_by hss q h.call.lock).bag ≡ tokens (get_or (stand q).holds h.call.lock no_hold).bag =
+          let same : tokens (hold_of hss q h.call.lock).bag ≡ tokens (get_or (stand q).holds h.call.lock no_hold).bag =
           ap (λ (hs : List Hold). tokens (get_or hs h.call.lock no_hold).bag) (scope.own q there) in
           absurd (omega (arith, f.some, none, same))
       next_by p in_it h f there (Some a) e =
@@ -382,25 +377,25 @@ module _ (rank : ℕ → ℕ → ℕ) (strict : ℕ → Bool) (servers : List Bo
           let below = scope.within q there in
           let c = held q there a e in
           let l = h.call.lock in
-          let bag : (held_by hss q l).bag ≡ (get_or (fine_at q below).before l no_hold).bag =
+          let bag : (hold_of hss q l).bag ≡ (get_or (fine_at q below).before l no_hold).bag =
           ap (λ (hs : List Hold). (get_or hs l no_hold).bag) (scope.own q there) ∙ (fine_at q below).bags l in
-          let may : may_hold_up (strict l) (Lock l).limit h.mode (held_by hss q l).bag ≡ true =
-          and_from (nat_lt 0 (tokens (held_by hss q l).bag)) (strict l || not (admits (Lock l).limit (held_by hss q l).bag h.mode))
-          (lt-ltb 0 (tokens (held_by hss q l).bag) f.some) f.refuses in
+          let may : may_hold_up (strict l) (Lock locks l).limit h.mode (hold_of hss q l).bag ≡ true =
+          and_from (nat_lt 0 (tokens (hold_of hss q l).bag)) (strict l || not (admits (Lock locks l).limit (hold_of hss q l).bag h.mode))
+          (lt-ltb 0 (tokens (hold_of hss q l).bag) f.some) f.refuses in
           record {
             who = q;
             in_it = there;
             held_up = c;
             above = plan.upward (wait_of p lt h) (wait_of q below c) (wait_is p lt h) (wait_is q below c) (record {
               together = elim (cases_eq p q) [
-                | inl same ↦ inr ((same, ap (λ (i : ℕ). (stand i).place) same), owner_or_not (is_reentrant (Lock l).kind) refl same)
+                | inl same ↦ inr ((same, ap (λ (i : ℕ). (stand i).place) same), owner_or_not (is_reentrant (Lock locks l).kind) refl same)
                 | inr different ↦ inl (different, can_meet p q lt below different)
               ];
-              refuses = subst (λ (b : Bag). may_hold_up (strict l) (Lock l).limit h.mode b ≡ true) bag may;
+              refuses = subst (λ (b : Bag). may_hold_up (strict l) (Lock locks l).limit h.mode b ≡ true) bag may;
             });
           }
         where
-          owner_or_not : (r : Bool) → is_reentrant (Lock h.call.lock).kind ≡ r → p ≡ f.who → is_reentrant (Lock h.call.lock).kind ≡ false
+          owner_or_not : (r : Bool) → is_reentrant (Lock locks h.call.lock).kind ≡ r → p ≡ f.who → is_reentrant (Lock locks h.call.lock).kind ≡ false
           owner_or_not true is same = absurd (f.not_owner is (sym same))
           owner_or_not false is same = is
 
@@ -478,10 +473,10 @@ module _ (rank : ℕ → ℕ → ℕ) (strict : ℕ → Bool) (servers : List Bo
       → on_lock (has_waiter locks w) (line_of locks (Some a)) ≡ true → HeldUp everyone IsParty of_everyone p
   behind_by p lt (Call call) e on =
       let l = call.lock in
-      let line = line_is (lines_up (Lock l) call.step) l on in
+      let line = line_is (lines_up (Lock locks l) call.step) l on in
       let found = some_found (λ q. waits_for l (act_of (stand q)) (turn_of locks w q)) (length w) line.1 in
       let b = waiter_by l found.0 found.2 (act_of (stand found.0)) refl (turn_of locks w found.0) refl found.1 in
-      let mode = lined_mode (Lock l) call.step line.0 in
+      let mode = lined_mode (Lock locks l) call.step line.0 in
       record {
         call = call;
         mode = mode.0;
@@ -517,7 +512,7 @@ module _ (rank : ℕ → ℕ → ℕ) (strict : ℕ → Bool) (servers : List Bo
   refused_by : (p : ℕ) → p < length w → (here : Option Act) → act_of (stand p) ≡ here
       → is_refused_turn (turn_by (acts_of w) here (reply_at locks everyone p here)) ≡ false
   refused_by p lt None e = refl
-  refused_by p lt (Some (Call call)) e = not_refused (Lock call.lock) everyone p call.lock call.step ((fine_at p lt).ranked call e)
+  refused_by p lt (Some (Call call)) e = not_refused (Lock locks call.lock) everyone p call.lock call.step ((fine_at p lt).ranked call e)
   refused_by p lt (Some (Try call)) e = refl
   refused_by p lt (Some (Choose block)) e = refl
   refused_by p lt (Some (Signal signal)) e = absurd ((fine_at p lt).no_signal signal e)

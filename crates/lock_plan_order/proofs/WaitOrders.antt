@@ -4,7 +4,7 @@ use Rattle.std.specs.Prelude.{◌==◌, nat_lt}
 use Rattle.std.specs.List.{list_all}
 use Rattle.std.specs.Option.{unwrap_or}
 use Rattle.std.proofs.Math.Nat.{mul-le-mul_right}
-use Rattle.std.proofs.lemmas.Bool.{and_parts, and_from, cases_Bool, cases_eq, eq-eqb, eqb-true, ltb-true, ne_eqb, not_from_false, or_left, or_right}
+use Rattle.std.proofs.lemmas.Bool.{and_parts, and_from, cases_Bool, cases_eq, eq-eqb, ltb-true, ne_eqb, not_from_false, or_left, or_right}
 use Rattle.lock_modes.specs.declared.hold.Hold.{Hold}
 use Rattle.lock_modes.specs.declared.lock_step.LockStep.TheVariants.{Modes}
 use Rattle.lock_modes.specs.declared.mode_step.ModeStep.TheVariants.{Acquire}
@@ -21,7 +21,7 @@ use Rattle.lock_plan.specs.Worlds.{act_in, no_lock}
 use Rattle.lock_plan_laws.specs.OrderChecks.{covers_at}
 use Rattle.lock_plan_laws.specs.Ranks.{IsCovered}
 use Rattle.lock_plan_laws.specs.WaitRanks.{excludes, HasWaitRanks, IsLenient, IsWaitOf, may_hold_up, MayHoldUp, Wait}
-use Rattle.lock_plan_laws.proofs.OrderChecks.{covered_at, covers_place}
+use Rattle.lock_plan_laws.proofs.OrderChecks.{all_free, covered_at, covers_place}
 use Rattle.lock_plan_laws.proofs.WaitRanks.{never_deadlock}
 use Rattle.lock_plan_order.specs.declared.setting.Setting.{Setting}
 use Rattle.lock_plan_order.specs.declared.wait_place.WaitPlace.{WaitPlace}
@@ -37,16 +37,11 @@ known_below (x ∷ known) zero holds e = omega arith
 known_below (x ∷ known) (suc place) holds e = omega (arith, known_below known place holds e)
 
 -- a party that holds some of a lock holds something
-none_held : (hs : List Hold) → list_all (λ h. tokens h.bag == 0) hs ≡ true → (l : ℕ) → tokens (get_or hs l no_hold).bag ≡ 0
-none_held [] e l = refl
-none_held (h ∷ hs) e zero = eqb-true (tokens h.bag) 0 (and_parts (tokens h.bag == 0) (list_all (λ h. tokens h.bag == 0) hs) e).0
-none_held (h ∷ hs) e (suc l) = none_held hs (and_parts (tokens h.bag == 0) (list_all (λ h. tokens h.bag == 0) hs) e).1 l
-
 some_held : (hs : List Hold) (l : ℕ) → 0 < tokens (get_or hs l no_hold).bag → holds_some hs ≡ true
 some_held hs l some = by (list_all (λ h. tokens h.bag == 0) hs) refl
   where
     by : (b : Bool) → list_all (λ h. tokens h.bag == 0) hs ≡ b → not b ≡ true
-    by true e = let none = none_held hs e l in absurd (omega (arith, some, none))
+    by true e = let none = all_free hs e l in absurd (omega (arith, some, none))
     by false e = refl
 
 -- parties that can meet are kept apart by no lock
