@@ -47,3 +47,4 @@ pub mod UnnamedCopies
 pub mod PlanCopies
 pub mod TraceSteps
 pub mod StillCircles
+pub mod NeverWaits

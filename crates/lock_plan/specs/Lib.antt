@@ -12,3 +12,4 @@ pub mod Checks
 pub mod Stops
 pub mod Memory
 pub mod Circles
+pub mod NeverWaits
