@@ -29,3 +29,5 @@ pub mod OrderChecks
 pub mod OrderExamples
 pub mod Holders
 pub mod FairLines
+pub mod AloneOnLocks
+pub mod NeverWaits

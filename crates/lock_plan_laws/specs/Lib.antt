@@ -9,3 +9,4 @@ pub mod OrderChecks
 pub mod OrderExamples
 pub mod Holders
 pub mod Lines
+pub mod NeverWaits
