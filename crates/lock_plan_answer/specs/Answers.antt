@@ -7,11 +7,12 @@ use Rattle.lock_plan.specs.declared.program.Step.{Step}
 use Rattle.lock_plan.specs.Worlds.{Stand, first_world}
 use Rattle.lock_plan.specs.Stops.{all_stopped}
 use Rattle.lock_plan_text.specs.declared.names.Names.{Names}
+use Rattle.lock_plan_answer.specs.AlwaysSteps.{always_steps_lines}
 use Rattle.lock_plan_answer.specs.Going.{going_lines}
 use Rattle.lock_plan_answer.specs.Steps.{last_world, steps_text}
 use Rattle.lock_plan_answer.specs.Stops.{stop_word, stop_lines}
 
--- the answer where no steps lead into a deadlock, and a search visited so many states
+-- the first line where no steps lead into a deadlock, and a search visited so many states
 abbrev pub none_text : ℕ → List ℕ
 none_text visited = codes "no deadlock, " ++ (decimal visited ++ codes " states\n")
 
@@ -24,5 +25,5 @@ trace_text mark locks names w trace =
 
 -- the answer to a plan, of what a search found
 abbrev pub answer_text : (List Stand → ℕ → List ℕ) → List PlanLock → List (List ProgramPlace) → Names → Option (Vec Step Global) → ℕ → List ℕ
-answer_text mark locks programs names None visited = none_text visited
+answer_text mark locks programs names None visited = none_text visited ++ always_steps_lines locks programs names
 answer_text mark locks programs names (Some trace) visited = trace_text mark locks names (first_world locks programs) trace.items

@@ -4,6 +4,7 @@ pub mod Signals
 pub mod Steps
 pub mod Stops
 pub mod Going
+pub mod AlwaysSteps
 pub mod Answers
 pub mod Lanes
 pub mod LineNumbers

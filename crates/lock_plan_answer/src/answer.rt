@@ -5,6 +5,7 @@ ghost use Rattle.lock_plan.specs.Stops.{programs_of};
 ghost use Rattle.lock_plan_answer.specs.Answers.{none_text, trace_text, answer_text};
 ghost use Rattle.lock_plan_answer.specs.LineMarks.{mark_by};
 
+use crate::always_steps::write_always_steps;
 use crate::going::write_going_lines;
 use crate::line_mark::LineMark;
 use crate::step::{last_node, write_steps};
@@ -14,8 +15,8 @@ use lock_plan::{Explored, Plan, Step};
 use lock_plan_text::Names;
 use std::alloc::{AllocError, Global};
 
-/// Appends the answer to a plan: that nothing deadlocks, or the steps into a deadlock and who waits and who goes on there.
-/// Each step and each wait has the mark before it.
+/// Appends the answer to a plan: that nothing deadlocks, and which parties always have a step. Or the steps into a deadlock,
+/// and who waits and who goes on there. Each step and each wait has the mark before it.
 pub fn write_answer(
     alloc: Global,
     text: &mut String,
@@ -28,12 +29,15 @@ pub fn write_answer(
         ++ answer_text (mark_by mark.entry) plan.now.locks.items (programs_of plan.now) names.now explored.now.trace explored.now.visited) }
 {
     match &explored.trace {
-        None => write_none(text, explored.visited),
+        None => {
+            write_none(text, explored.visited)?;
+            write_always_steps(alloc, text, plan, names)
+        }
         Some(trace) => write_trace(alloc, text, plan, names, trace.as_slice(), mark),
     }
 }
 
-/// Appends the answer where no steps lead into a deadlock.
+/// Appends the first line where no steps lead into a deadlock.
 fn write_none(text: &mut String, visited: usize) -> Result<(), AllocError>
     ensures { OnOk result (string_bytes text.new ≡ string_bytes text.old ++ none_text visited) }
 {

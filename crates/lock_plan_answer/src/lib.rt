@@ -2,10 +2,11 @@
 //!
 //! [`write_answer`] appends what [`explore`](lock_plan::explore) found, [`write_drawing`] the drawing below it, and
 //! [`draw_picture`] makes the picture in its place. [`write_order`] appends the order of the locks, or what is in its way.
-//! `answer` is made of `step` and `stop`, with `signal` for what is no call; `lanes` is made of `cell`. All read rows by
+//! `answer` is made of `always_steps`, `step` and `stop`, with `signal` for what is no call; `lanes` is made of `cell`. All read rows by
 //! `stand`. In the specs, `Answers` is the text of an answer, `Lanes` that of a drawing, and `Orders` that of an order.
 #![tactic(auto)]
 
+mod always_steps;
 mod answer;
 mod cell;
 mod going;

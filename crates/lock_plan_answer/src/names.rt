@@ -1,7 +1,8 @@
 //! Writing the names of a plan.
 ghost use Rattle.std.specs.Prelude.{◌≡◌, ◌++◌, OnOk, string_bytes};
+ghost use Rattle.std.specs.List.{flat_map};
 ghost use Rattle.lock_plan_text.specs.Names.{name_of};
-ghost use Rattle.lock_plan_answer.specs.RowNames.{is_party, row_name};
+ghost use Rattle.lock_plan_answer.specs.RowNames.{is_party, party_line, row_name};
 
 use lock_plan_text::Names;
 use std::alloc::AllocError;
@@ -35,4 +36,32 @@ pub(crate) fn write_row_name(text: &mut String, names: &Names, row: usize) -> Re
         return write_name(text, names.parties.as_slice(), row);
     }
     write_name(text, names.flags.as_slice(), row - names.parties.len())
+}
+
+/// Appends for each of these parties a line that says this of it.
+pub(crate) fn write_party_lines(
+    text: &mut String,
+    names: &Names,
+    parties: &[usize],
+    says: &str,
+) -> Result<(), AllocError>
+    ensures { OnOk result (string_bytes text.new ≡ string_bytes text.old ++ flat_map (party_line names.now says.now) parties.now) }
+{
+    for party in parties {
+        write_party_line(text, names, *party, says)?;
+    }
+    Ok(())
+}
+
+/// Appends a line that says this of a party.
+fn write_party_line(
+    text: &mut String,
+    names: &Names,
+    party: usize,
+    says: &str,
+) -> Result<(), AllocError>
+    ensures { OnOk result (string_bytes text.new ≡ string_bytes text.old ++ party_line names.now says.now party) }
+{
+    write_name(text, names.parties.as_slice(), party)?;
+    text.push_str(says)
 }
