@@ -7,10 +7,10 @@ use Rattle.lock_modes.specs.declared.kind.Kind.{Kind}
 use Rattle.lock_modes.specs.declared.kind.Kind.TheVariants.{Mutex, RwLock, Reentrant}
 use Rattle.script_text.specs.Lines.{fields_of}
 use Rattle.script_text.proofs.NumberTexts.{line-one_field}
-use Rattle.lock_plan_lines.specs.declared.plan_line.Parties.{Parties}
-use Rattle.lock_plan_lines.specs.declared.plan_line.Parties.TheVariants.{One, Copies, Any}
-use Rattle.lock_plan_lines.specs.declared.plan_line.PlanLine.{PlanLine}
-use Rattle.lock_plan_lines.specs.declared.plan_line.PlanLine.TheVariants.{Lock, Party}
+use Rattle.lock_plan_lines.specs.declared.text_line.Parties.{Parties}
+use Rattle.lock_plan_lines.specs.declared.text_line.Parties.TheVariants.{One, Copies, Any}
+use Rattle.lock_plan_lines.specs.declared.text_line.PlanLine.{PlanLine}
+use Rattle.lock_plan_lines.specs.declared.text_line.PlanLine.TheVariants.{Lock, Party}
 use Rattle.lock_plan_lines.specs.PlanLines.{IsCopies, IsCount, IsPlanLine, copy_fields, kind_word, last_fields, limit_fields, line_word, party_word}
 
 -- each text has a field

@@ -13,16 +13,16 @@ use Rattle.lock_modes.specs.Modes.{is_move}
 use Rattle.lock_plan_lines.specs.Words.{step_word}
 use Rattle.lock_plan_lines.specs.declared.block_line.BlockWord.{BlockWord}
 use Rattle.lock_plan_lines.specs.declared.block_line.BlockWord.TheVariants as block
-use Rattle.lock_plan_lines.specs.declared.plan_line.Parties.{Parties}
-use Rattle.lock_plan_lines.specs.declared.plan_line.Parties.TheVariants as parties
-use Rattle.lock_plan_lines.specs.declared.plan_line.PlanLine.{PlanLine}
-use Rattle.lock_plan_lines.specs.declared.named_word.NamedWord.{NamedWord}
-use Rattle.lock_plan_lines.specs.declared.named_word.NamedWord.TheVariants as named
-use Rattle.lock_plan_lines.specs.declared.plan_line.PlanLine.TheVariants.{Lock, Party, Call, Named}
+use Rattle.lock_plan_lines.specs.declared.text_line.Parties.{Parties}
+use Rattle.lock_plan_lines.specs.declared.text_line.Parties.TheVariants as parties
+use Rattle.lock_plan_lines.specs.declared.text_line.PlanLine.{PlanLine}
+use Rattle.lock_plan_lines.specs.declared.text_line.NamedWord.{NamedWord}
+use Rattle.lock_plan_lines.specs.declared.text_line.NamedWord.TheVariants as named
+use Rattle.lock_plan_lines.specs.declared.text_line.PlanLine.TheVariants.{Lock, Party, Call, Named}
 use Rattle.lock_plan_lines.specs.declared.text_line.TextLine.{TextLine}
 use Rattle.lock_plan_lines.specs.declared.text_line.TextLine.TheVariants as text
-use Rattle.lock_plan_lines.specs.declared.wait_line.WaitLine.{WaitLine}
-use Rattle.lock_plan_lines.specs.declared.wait_line.WaitLine.TheVariants as wait
+use Rattle.lock_plan_lines.specs.declared.text_line.WaitLine.{WaitLine}
+use Rattle.lock_plan_lines.specs.declared.text_line.WaitLine.TheVariants as wait
 use Rattle.lock_plan_lines.specs.PlanLines.{IsFlagField, IsNamed, IsOneName, IsTextLine, TextNames, block_word, has_flag, text_fields, IsCopies, IsLineLock, IsPlanLine, IsVerb, manner_fields, copy_fields, kind_word, last_fields, limit_fields, line_word, look_fields, timeout_fields, named_word, one_name, party_word, plan_fields, until_fields}
 
 -- a line without the limit of its lock

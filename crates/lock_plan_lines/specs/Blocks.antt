@@ -11,8 +11,8 @@ use Rattle.lock_plan.specs.Points.{said_below}
 use Rattle.lock_plan_lines.specs.declared.block_line.BlockLine.{BlockLine}
 use Rattle.lock_plan_lines.specs.declared.block_line.BlockLine.TheVariants.{Call, Try, Word, If, Until, TimedSleep, Plain}
 use Rattle.lock_plan_lines.specs.declared.block_line.BlockWord.TheVariants.{Repeat, Forever, Either, Else, Or, End, Leave, Return}
-use Rattle.lock_plan_lines.specs.declared.plain_line.PlainLine.{PlainLine}
-use Rattle.lock_plan_lines.specs.declared.plain_line.PlainLine.TheVariants.{Idle, Set, Clear, Assert, Sleep, NotifyOne, NotifyAll, Start, Join}
+use Rattle.lock_plan_lines.specs.declared.block_line.PlainLine.{PlainLine}
+use Rattle.lock_plan_lines.specs.declared.block_line.PlainLine.TheVariants.{Idle, Set, Clear, Assert, Sleep, NotifyOne, NotifyAll, Start, Join}
 
 -- whether a line begins a block, ends one, or parts one: an `else`, an `or` or an `end`
 abbrev pub begins : BlockLine → Bool

@@ -15,17 +15,17 @@ use Rattle.lock_plan.specs.CallFaults.{is_of_kind}
 use Rattle.lock_plan_lines.specs.Words.{step_word}
 use Rattle.lock_plan_lines.specs.declared.block_line.BlockWord.{BlockWord}
 use Rattle.lock_plan_lines.specs.declared.block_line.BlockWord.TheVariants.{Repeat, Forever, Either, Else, Or, End, Leave, Return}
-use Rattle.lock_plan_lines.specs.declared.line_names.LineNames.{LineNames}
-use Rattle.lock_plan_lines.specs.declared.named_word.NamedWord.{NamedWord}
-use Rattle.lock_plan_lines.specs.declared.named_word.NamedWord.TheVariants.{Flag, Condvar, Set, Clear, If, NotifyOne, NotifyAll, Start, Join}
-use Rattle.lock_plan_lines.specs.declared.plan_line.Parties.{Parties}
-use Rattle.lock_plan_lines.specs.declared.plan_line.Parties.TheVariants.{One, Copies, Any}
-use Rattle.lock_plan_lines.specs.declared.plan_line.PlanLine.{PlanLine}
-use Rattle.lock_plan_lines.specs.declared.plan_line.PlanLine.TheVariants.{Lock, Party, Call, Named}
+use Rattle.lock_plan_lines.specs.declared.name.LineNames.{LineNames}
+use Rattle.lock_plan_lines.specs.declared.text_line.NamedWord.{NamedWord}
+use Rattle.lock_plan_lines.specs.declared.text_line.NamedWord.TheVariants.{Flag, Condvar, Set, Clear, If, NotifyOne, NotifyAll, Start, Join}
+use Rattle.lock_plan_lines.specs.declared.text_line.Parties.{Parties}
+use Rattle.lock_plan_lines.specs.declared.text_line.Parties.TheVariants.{One, Copies, Any}
+use Rattle.lock_plan_lines.specs.declared.text_line.PlanLine.{PlanLine}
+use Rattle.lock_plan_lines.specs.declared.text_line.PlanLine.TheVariants.{Lock, Party, Call, Named}
 use Rattle.lock_plan_lines.specs.declared.text_line.TextLine.{TextLine}
 use Rattle.lock_plan_lines.specs.declared.text_line.TextLine.TheVariants.{Plan, Try, Word, Until, Assert, Wait}
-use Rattle.lock_plan_lines.specs.declared.wait_line.WaitLine.{WaitLine}
-use Rattle.lock_plan_lines.specs.declared.wait_line.WaitLine.TheVariants as wait
+use Rattle.lock_plan_lines.specs.declared.text_line.WaitLine.{WaitLine}
+use Rattle.lock_plan_lines.specs.declared.text_line.WaitLine.TheVariants as wait
 use Rattle.script_text.specs.Lines.{fields_of}
 
 -- a letter, a digit, `_`, `-` or `.`

@@ -1,5 +1,7 @@
 //! The lines of a party: calls, tries, the lines of blocks, and plain lines.
-use crate::plain_line::PlainLine;
+ghost use Rattle.std.specs.Prelude.{◌≡◌, IfNone, IfSome};
+ghost use Rattle.lock_plan_lines.specs.PlanLines.{block_word};
+
 use lock_plan::PlanCall;
 
 /// A line of a party. A line of the text is one of these, but a wait is several.
@@ -34,6 +36,31 @@ pub enum BlockWord {
     Leave,
     /// Leads past the last line.
     Return,
+}
+
+/// A line of a party with one place after it.
+///
+/// A number means what it means in a [`BlockLine`].
+#[derive(Clone, Copy, PartialEq, Eq, Debug)]
+pub enum PlainLine {
+    /// Where a party that is started waits for its start. No line of a text says it.
+    Idle,
+    /// Sets the flag.
+    Set(usize),
+    /// Clears the flag.
+    Clear(usize),
+    /// Asserts that the flag has this value.
+    Assert(usize, bool),
+    /// Sleeps on the condition variable.
+    Sleep(usize),
+    /// Wakes one party that sleeps on the condition variable.
+    NotifyOne(usize),
+    /// Wakes all parties that sleep on the condition variable.
+    NotifyAll(usize),
+    /// Starts the party of the mention.
+    Start(usize),
+    /// Waits until the party of the mention has ended.
+    Join(usize),
 }
 
 impl BlockLine {
@@ -113,5 +140,23 @@ impl BlockLine {
             self,
             BlockLine::Until(..) | BlockLine::Word(BlockWord::Repeat | BlockWord::Forever)
         )
+    }
+}
+
+/// Reads the word of a block's line.
+pub(crate) fn block_word(word: &str) -> Option<BlockWord>
+    ensures word { IfSome result (λ found. block_word found ≡ word.now) }
+    ensures bad { IfNone result ((found : BlockWord) → block_word found ≡ word.now → ⊥) }
+{
+    match word {
+        "repeat" => Some(BlockWord::Repeat),
+        "forever" => Some(BlockWord::Forever),
+        "either" => Some(BlockWord::Either),
+        "else" => Some(BlockWord::Else),
+        "or" => Some(BlockWord::Or),
+        "end" => Some(BlockWord::End),
+        "leave" => Some(BlockWord::Leave),
+        "return" => Some(BlockWord::Return),
+        _ => None,
     }
 }

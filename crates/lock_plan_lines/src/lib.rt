@@ -6,19 +6,14 @@
 #![tactic(auto)]
 
 mod block_line;
-mod block_word;
 mod form;
 mod limit;
 mod line_fault;
-mod line_names;
 mod look;
 mod name;
-mod named_word;
 mod nearest;
 mod open_block;
 mod party_count;
-mod plain_line;
-mod plan_line;
 mod program;
 mod reading;
 mod scan;
@@ -26,19 +21,14 @@ mod text_line;
 mod unread;
 mod verb;
 mod wait;
-mod wait_line;
 mod wrong_field;
 
-pub use block_line::{BlockLine, BlockWord};
+pub use block_line::{BlockLine, BlockWord, PlainLine};
 pub use line_fault::{LineFault, NameKind};
-pub use line_names::LineNames;
-pub use named_word::NamedWord;
+pub use name::LineNames;
 pub use open_block::{OpenBlock, OpenBlocks};
-pub use plain_line::PlainLine;
-pub use plan_line::{Parties, PlanLine};
 pub use program::{program_of, step_numbers};
 pub use reading::read_line;
 pub use scan::{beginning, line_at};
-pub use text_line::TextLine;
+pub use text_line::{NamedWord, Parties, PlanLine, TextLine, WaitLine};
 pub use unread::unread_fault;
-pub use wait_line::WaitLine;

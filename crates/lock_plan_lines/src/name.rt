@@ -1,7 +1,7 @@
-//! Names of locks and parties.
+//! Names, and those of a line.
 ghost use Rattle.std.specs.Prelude.{◌≡◌};
 ghost use Rattle.std.specs.List.{list_all};
-ghost use Rattle.lock_plan_lines.specs.PlanLines.{is_name, is_name_byte};
+ghost use Rattle.lock_plan_lines.specs.PlanLines.{is_name, is_name_byte, names_of, no_names, one_name};
 
 /// Returns whether a field is a name.
 pub(crate) fn is_name(field: &str) -> bool
@@ -29,4 +29,33 @@ fn is_name_byte(byte: u8) -> bool
     ensures { result ≡ is_name_byte byte }
 {
     byte.is_ascii_alphanumeric() || byte == b'_' || byte == b'-' || byte == b'.'
+}
+
+/// The names of a line. Those that it does not have are empty.
+#[derive(Clone, Copy)]
+pub struct LineNames<'a> {
+    /// The name of a lock, a party, a flag or a condition variable.
+    pub name: &'a str,
+    /// The mutex of a wait.
+    pub mutex: &'a str,
+    /// The flag of a wait.
+    pub flag: &'a str,
+}
+
+/// Makes the names of a line with one name.
+pub(crate) fn one_name(name: &str) -> LineNames
+    ensures { names_of result ≡ one_name name.now }
+{
+    LineNames {
+        name,
+        mutex: "",
+        flag: "",
+    }
+}
+
+/// Makes the names of a line that has none.
+pub(crate) fn no_names() -> LineNames<'static>
+    ensures { names_of result ≡ no_names }
+{
+    one_name("")
 }

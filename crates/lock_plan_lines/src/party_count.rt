@@ -1,10 +1,10 @@
 //! Reading how many parties a line makes.
 ghost use Rattle.std.specs.Prelude.{◌≡◌, ◌↔◌, ◌∷◌, [], ℕ, IfNone, IfSome, IsSome, decimal};
 ghost use Rattle.script_text.specs.Lines.{fields_of};
-ghost use Rattle.lock_plan_lines.specs.declared.plan_line.Parties.{Parties};
+ghost use Rattle.lock_plan_lines.specs.declared.text_line.Parties.{Parties};
 ghost use Rattle.lock_plan_lines.specs.PlanLines.{IsCopies, IsCount, IsCountField, copy_fields};
 
-use crate::plan_line::Parties;
+use crate::text_line::Parties;
 use script_text::{first_field, unsigned};
 
 /// Reads how many parties a line makes from the field after the name: a count, or `*` for any number.

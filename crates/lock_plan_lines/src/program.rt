@@ -3,8 +3,7 @@ ghost use Rattle.std.specs.Prelude.{◌≡◌, ◌<◌, ◌≤◌, suc, length, 
 ghost use Rattle.step_search.specs.Walks.{each_below};
 ghost use Rattle.lock_plan_lines.specs.Blocks.{AreLands, is_step, one_way, other_line, place_for, place_number, place_of_line, program_of, signal_of, step_numbers, two_ways};
 
-use crate::block_line::{BlockLine, BlockWord};
-use crate::plain_line::PlainLine;
+use crate::block_line::{BlockLine, BlockWord, PlainLine};
 use crate::scan::{boundary, land_in, lands, line_at, number_at};
 use lock_plan::{Act, Block, ProgramPlace, Signal};
 use std::alloc::{AllocError, Global};

@@ -5,15 +5,12 @@ ghost use Rattle.script_text.specs.Parts.{bytes_of};
 ghost use Rattle.lock_plan_lines.specs.PlanLines.{IsPlanLine, IsVerb, Says, TextNames, is_name, is_tried, last_fields, line_word, names_of, party_word, plan_fields};
 ghost use Rattle.lock_plan_lines.specs.Words.{step_word};
 
-use crate::block_word::block_word;
+use crate::block_line::block_word;
 use crate::limit::{fair_mutex, reentrant, rwlock};
-use crate::line_names::{LineNames, no_names, one_name};
 use crate::look::{read_look, read_until};
-use crate::name::is_name;
-use crate::named_word::named_word;
+use crate::name::{LineNames, is_name, no_names, one_name};
 use crate::party_count::parties;
-use crate::plan_line::{Parties, PlanLine};
-use crate::text_line::TextLine;
+use crate::text_line::{Parties, PlanLine, TextLine, named_word};
 use crate::verb::verb;
 use crate::wait::read_wait;
 use lock_modes::{Kind, LockStep, Mode, ModeStep};

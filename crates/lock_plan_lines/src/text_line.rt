@@ -1,8 +1,10 @@
 //! What lines of a text say.
+ghost use Rattle.std.specs.Prelude.{◌≡◌, IfNone, IfSome};
+ghost use Rattle.lock_plan_lines.specs.PlanLines.{named_word};
+
 use crate::block_line::BlockWord;
-use crate::plan_line::PlanLine;
-use crate::wait_line::WaitLine;
 use lock_modes::LockStep;
+use lock_plan::PlanLock;
 
 /// What a line of a text says.
 #[derive(Clone, Copy, PartialEq, Eq, Debug)]
@@ -18,4 +20,73 @@ pub enum TextLine {
     Assert(bool),
     /// A wait on a condition variable. It names its mutex too, and perhaps a flag.
     Wait(WaitLine),
+}
+
+/// How many parties a line makes.
+#[derive(Clone, Copy, PartialEq, Eq, Debug)]
+pub enum Parties {
+    One,
+    Copies(u64),
+    /// Any number. The plan has one of them.
+    Any,
+}
+
+/// What a line says of what it names: a lock, a party, a flag or a condition variable.
+#[derive(Clone, Copy, PartialEq, Eq, Debug)]
+pub enum PlanLine {
+    Lock(PlanLock),
+    /// Parties, and whether they are servers.
+    Party(bool, Parties),
+    /// A call, and whether its word is one for reader-writer locks.
+    Call(bool, LockStep),
+    /// A line of this word and a name alone.
+    Named(NamedWord),
+}
+
+/// The word of a line that has only a name after it, and calls no lock.
+#[derive(Clone, Copy, PartialEq, Eq, Debug)]
+pub enum NamedWord {
+    /// Declares a flag.
+    Flag,
+    /// Declares a condition variable.
+    Condvar,
+    Set,
+    Clear,
+    If,
+    NotifyOne,
+    NotifyAll,
+    Start,
+    Join,
+}
+
+/// Reads such a word.
+pub(crate) fn named_word(word: &str) -> Option<NamedWord>
+    ensures word { IfSome result (λ found. named_word found ≡ word.now) }
+    ensures bad { IfNone result ((found : NamedWord) → named_word found ≡ word.now → ⊥) }
+{
+    match word {
+        "flag" => Some(NamedWord::Flag),
+        "condvar" => Some(NamedWord::Condvar),
+        "set" => Some(NamedWord::Set),
+        "clear" => Some(NamedWord::Clear),
+        "if" => Some(NamedWord::If),
+        "notify_one" => Some(NamedWord::NotifyOne),
+        "notify_all" => Some(NamedWord::NotifyAll),
+        "start" => Some(NamedWord::Start),
+        "join" => Some(NamedWord::Join),
+        _ => None,
+    }
+}
+
+/// For how long a line waits on a condition variable.
+#[derive(Clone, Copy, PartialEq, Eq, Debug)]
+pub enum WaitLine {
+    /// For one notification.
+    Once,
+    /// Again and again, until the flag has this value.
+    Until(bool),
+    /// For one notification or a timeout.
+    OrTimeout,
+    /// Again and again, until the flag has this value or there is a timeout.
+    UntilOrTimeout(bool),
 }

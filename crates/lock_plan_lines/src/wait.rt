@@ -3,10 +3,9 @@ ghost use Rattle.std.specs.Prelude.{◌≡◌, ◌∷◌, ℕ, List, IfNone, IfS
 ghost use Rattle.script_text.specs.Lines.{fields_of};
 ghost use Rattle.lock_plan_lines.specs.PlanLines.{AreMutexAndFlag, AreWaitNames, IsFlagField, TextNames, has_flag, names_of, until_fields, wait_fields};
 
-use crate::line_names::LineNames;
 use crate::look::{is_timeout, read_timed_until, read_until};
-use crate::name::is_name;
-use crate::wait_line::WaitLine;
+use crate::name::{LineNames, is_name};
+use crate::text_line::WaitLine;
 use script_text::first_field;
 
 /// Reads a wait and its names, by the fields after the first.

@@ -4,9 +4,9 @@ use Rattle.std.specs.Prelude.{◌||◌, ◌⊎◌, is_some, ⊤}
 use Rattle.std.proofs.Math.ListN.{get_or-append}
 use Rattle.std.proofs.lemmas.Bool.{ltb-true}
 use Rattle.lock_plan_lines.specs.declared.block_line.BlockLine.{BlockLine}
-use Rattle.lock_plan_lines.specs.declared.named_word.NamedWord.{NamedWord}
+use Rattle.lock_plan_lines.specs.declared.text_line.NamedWord.{NamedWord}
 use Rattle.lock_plan_lines.specs.declared.open_block.OpenBlock.{OpenBlock}
-use Rattle.lock_plan_lines.specs.declared.plan_line.PlanLine.TheVariants.{Lock, Party, Named}
+use Rattle.lock_plan_lines.specs.declared.text_line.PlanLine.TheVariants.{Lock, Party, Named}
 use Rattle.lock_plan_lines.specs.declared.text_line.TextLine.{TextLine}
 use Rattle.lock_plan_lines.specs.declared.text_line.TextLine.TheVariants.{Plan}
 use Rattle.lock_plan_lines.specs.PlanLines.{TextNames}

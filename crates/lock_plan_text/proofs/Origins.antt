@@ -7,10 +7,10 @@ use Rattle.std.proofs.Math.ListN.{get_or-append}
 use Rattle.lock_plan.specs.declared.lock.PlanLock.{PlanLock}
 use Rattle.lock_plan.specs.Worlds.{no_lock}
 use Rattle.lock_plan_lines.specs.declared.block_line.BlockLine.{BlockLine}
-use Rattle.lock_plan_lines.specs.declared.named_word.NamedWord.{NamedWord}
-use Rattle.lock_plan_lines.specs.declared.named_word.NamedWord.TheVariants.{Flag, Condvar, Start, Join}
+use Rattle.lock_plan_lines.specs.declared.text_line.NamedWord.{NamedWord}
+use Rattle.lock_plan_lines.specs.declared.text_line.NamedWord.TheVariants.{Flag, Condvar, Start, Join}
 use Rattle.lock_plan_lines.specs.declared.open_block.OpenBlock.{OpenBlock}
-use Rattle.lock_plan_lines.specs.declared.plan_line.PlanLine.TheVariants.{Lock, Party, Named}
+use Rattle.lock_plan_lines.specs.declared.text_line.PlanLine.TheVariants.{Lock, Party, Named}
 use Rattle.lock_plan_lines.specs.declared.text_line.TextLine.{TextLine}
 use Rattle.lock_plan_lines.specs.declared.text_line.TextLine.TheVariants.{Plan}
 use Rattle.lock_plan_lines.specs.OpenBlocks.{open_after}

@@ -7,15 +7,15 @@ use Rattle.lock_plan.specs.declared.lock.PlanLock.{PlanLock}
 use Rattle.lock_plan.specs.Worlds.{no_lock}
 use Rattle.lock_plan_lines.specs.declared.block_line.BlockLine.{BlockLine}
 use Rattle.lock_plan_lines.specs.declared.block_line.BlockLine.TheVariants as block
-use Rattle.lock_plan_lines.specs.declared.plain_line.PlainLine.TheVariants as plain
+use Rattle.lock_plan_lines.specs.declared.block_line.PlainLine.TheVariants as plain
 use Rattle.lock_plan_lines.specs.declared.block_line.BlockWord.TheVariants.{End}
-use Rattle.lock_plan_lines.specs.declared.named_word.NamedWord.{NamedWord}
-use Rattle.lock_plan_lines.specs.declared.named_word.NamedWord.TheVariants.{Set, Clear, If, NotifyOne, NotifyAll, Start, Join}
-use Rattle.lock_plan_lines.specs.declared.plan_line.PlanLine.TheVariants.{Call, Named}
+use Rattle.lock_plan_lines.specs.declared.text_line.NamedWord.{NamedWord}
+use Rattle.lock_plan_lines.specs.declared.text_line.NamedWord.TheVariants.{Set, Clear, If, NotifyOne, NotifyAll, Start, Join}
+use Rattle.lock_plan_lines.specs.declared.text_line.PlanLine.TheVariants.{Call, Named}
 use Rattle.lock_plan_lines.specs.declared.text_line.TextLine.{TextLine}
 use Rattle.lock_plan_lines.specs.declared.text_line.TextLine.TheVariants.{Plan, Try, Word, Until, Assert, Wait}
-use Rattle.lock_plan_lines.specs.declared.wait_line.WaitLine.{WaitLine}
-use Rattle.lock_plan_lines.specs.declared.wait_line.WaitLine.TheVariants as wait
+use Rattle.lock_plan_lines.specs.declared.text_line.WaitLine.{WaitLine}
+use Rattle.lock_plan_lines.specs.declared.text_line.WaitLine.TheVariants as wait
 use Rattle.lock_plan_lines.specs.PlanLines.{TextNames}
 use Rattle.lock_plan_text.specs.Drafts.{Draft, call_on, step_on, named_call, named_line, one_line, own_lines, place_of, sleep_lines, timed_lines, timed_until_lines, until_lines, wait_lines}
 

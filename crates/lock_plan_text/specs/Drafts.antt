@@ -16,17 +16,17 @@ use Rattle.lock_plan.specs.Worlds.{no_lock}
 use Rattle.lock_plan_lines.specs.declared.block_line.BlockLine.{BlockLine}
 use Rattle.lock_plan_lines.specs.declared.block_line.BlockLine.TheVariants as block
 use Rattle.lock_plan_lines.specs.declared.block_line.BlockWord.TheVariants.{Else, End, Leave}
-use Rattle.lock_plan_lines.specs.declared.named_word.NamedWord.{NamedWord}
-use Rattle.lock_plan_lines.specs.declared.named_word.NamedWord.TheVariants.{Flag, Condvar, Set, Clear, If, NotifyOne, NotifyAll, Start, Join}
+use Rattle.lock_plan_lines.specs.declared.text_line.NamedWord.{NamedWord}
+use Rattle.lock_plan_lines.specs.declared.text_line.NamedWord.TheVariants.{Flag, Condvar, Set, Clear, If, NotifyOne, NotifyAll, Start, Join}
 use Rattle.lock_plan_lines.specs.declared.open_block.OpenBlock.{OpenBlock}
-use Rattle.lock_plan_lines.specs.declared.plain_line.PlainLine.TheVariants as plain
-use Rattle.lock_plan_lines.specs.declared.plan_line.Parties.{Parties}
-use Rattle.lock_plan_lines.specs.declared.plan_line.Parties.TheVariants.{One, Copies, Any}
-use Rattle.lock_plan_lines.specs.declared.plan_line.PlanLine.TheVariants.{Lock, Party, Call, Named}
+use Rattle.lock_plan_lines.specs.declared.block_line.PlainLine.TheVariants as plain
+use Rattle.lock_plan_lines.specs.declared.text_line.Parties.{Parties}
+use Rattle.lock_plan_lines.specs.declared.text_line.Parties.TheVariants.{One, Copies, Any}
+use Rattle.lock_plan_lines.specs.declared.text_line.PlanLine.TheVariants.{Lock, Party, Call, Named}
 use Rattle.lock_plan_lines.specs.declared.text_line.TextLine.{TextLine}
 use Rattle.lock_plan_lines.specs.declared.text_line.TextLine.TheVariants.{Plan, Try, Word, Until, Assert, Wait}
-use Rattle.lock_plan_lines.specs.declared.wait_line.WaitLine.{WaitLine}
-use Rattle.lock_plan_lines.specs.declared.wait_line.WaitLine.TheVariants as wait
+use Rattle.lock_plan_lines.specs.declared.text_line.WaitLine.{WaitLine}
+use Rattle.lock_plan_lines.specs.declared.text_line.WaitLine.TheVariants as wait
 use Rattle.lock_plan_lines.specs.OpenBlocks.{has_loop, open_after}
 use Rattle.lock_plan_lines.specs.PlanLines.{Says, TextNames}
 use Rattle.script_text.specs.Lines.{lines_of}

@@ -3,9 +3,9 @@ use Rattle.std.specs.Prelude.{◌≡◌, ℕ, ◌+◌, ◌<◌, Bool, true, fals
 use Rattle.lock_plan.specs.declared.fault.CallFault.{CallFault}
 use Rattle.lock_plan.specs.declared.fault.PlanFault.TheVariants as plan
 use Rattle.lock_plan.specs.Checks.{plan_fault}
-use Rattle.lock_plan_lines.specs.declared.named_word.NamedWord.{NamedWord}
-use Rattle.lock_plan_lines.specs.declared.named_word.NamedWord.TheVariants.{Start, Join}
-use Rattle.lock_plan_lines.specs.declared.plan_line.PlanLine.TheVariants.{Named}
+use Rattle.lock_plan_lines.specs.declared.text_line.NamedWord.{NamedWord}
+use Rattle.lock_plan_lines.specs.declared.text_line.NamedWord.TheVariants.{Start, Join}
+use Rattle.lock_plan_lines.specs.declared.text_line.PlanLine.TheVariants.{Named}
 use Rattle.lock_plan_lines.specs.declared.text_line.TextLine.TheVariants.{Plan}
 use Rattle.lock_plan_lines.specs.Blocks.{is_step, line_at, place_number}
 use Rattle.lock_plan_lines.specs.PlanLines.{Says, one_name}

@@ -7,8 +7,8 @@ use Rattle.lock_plan.specs.declared.program.ProgramPlace.{ProgramPlace}
 use Rattle.lock_plan.specs.declared.program.Signal.TheVariants as signal
 use Rattle.lock_plan_lines.specs.declared.block_line.BlockLine.{BlockLine}
 use Rattle.lock_plan_lines.specs.declared.block_line.BlockLine.TheVariants.{If, Until, Plain}
-use Rattle.lock_plan_lines.specs.declared.plain_line.PlainLine.{PlainLine}
-use Rattle.lock_plan_lines.specs.declared.plain_line.PlainLine.TheVariants.{Idle, Set, Clear, Assert, Start, Join}
+use Rattle.lock_plan_lines.specs.declared.block_line.PlainLine.{PlainLine}
+use Rattle.lock_plan_lines.specs.declared.block_line.PlainLine.TheVariants.{Idle, Set, Clear, Assert, Start, Join}
 use Rattle.lock_plan_lines.specs.Blocks.{program_of, step_numbers}
 use Rattle.lock_plan_text.specs.Drafts.{Draft, is_started, place_of}
 use Rattle.step_search.specs.Walks.{each_below}

@@ -5,7 +5,7 @@ use std::alloc::{AllocError, Global};
 
 impl PlanDraft {
     ghost use Rattle.std.specs.Prelude.{◌≡◌, false, Some, None, IfOk, OnOk, if◌then◌else◌};
-    ghost use Rattle.lock_plan_lines.specs.declared.named_word.NamedWord.TheVariants.{Flag, Condvar};
+    ghost use Rattle.lock_plan_lines.specs.declared.text_line.NamedWord.TheVariants.{Flag, Condvar};
     ghost use Rattle.lock_plan_lines.specs.PlanLines.{names_of, one_name};
     ghost use Rattle.lock_plan_text.specs.Drafts.{is_started, may_start, with_mention, with_named, with_start};
     ghost use Rattle.lock_plan_text.specs.Drafted.{drafted};

@@ -1,6 +1,6 @@
 //! What the lines of a plan make.
 ghost use Rattle.std.specs.Prelude.{◌≡◌, ◌∷◌, [], Some, None, IfOk, if◌then◌else◌};
-ghost use Rattle.lock_plan_lines.specs.declared.plan_line.PlanLine.TheVariants as line;
+ghost use Rattle.lock_plan_lines.specs.declared.text_line.PlanLine.TheVariants as line;
 ghost use Rattle.lock_plan_lines.specs.declared.text_line.TextLine.TheVariants as text;
 ghost use Rattle.lock_plan_lines.specs.PlanLines.{names_of, one_name};
 ghost use Rattle.lock_plan_text.specs.Drafts.{copy_names, no_draft, with_line, with_own_line, with_own_lines, with_parties, with_said};

@@ -1,7 +1,7 @@
 use Rattle.std.proofs.Common.{◌≡◌, ◌∙◌, ℕ, Bool, List, [], ◌∷◌, codes, refl, sym, ap}
 use Rattle.std.specs.Prelude.{IsTrue}
 use Rattle.script_text.specs.Lines.{fields_of}
-use Rattle.lock_plan_lines.specs.declared.plan_line.PlanLine.{PlanLine}
+use Rattle.lock_plan_lines.specs.declared.text_line.PlanLine.{PlanLine}
 use Rattle.lock_plan_lines.specs.declared.text_line.TextLine.{TextLine}
 use Rattle.lock_plan_lines.specs.declared.text_line.TextLine.TheVariants.{Plan, Try, Word, Until, Assert, Wait}
 use Rattle.lock_plan_lines.specs.PlanLines.{IsNamed, IsPlanLine, IsTextLine, TextNames, is_name, line_word, look_fields, plan_fields, text_fields}

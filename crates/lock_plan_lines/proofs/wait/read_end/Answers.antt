@@ -1,8 +1,8 @@
 use Rattle.std.proofs.Common.{◌≡◌, ℕ, Bool, List, ◌∷◌, ◌++◌, codes, rules}
 use Rattle.std.specs.Prelude.{IsTrue}
 use Rattle.script_text.specs.Lines.{fields_of}
-use Rattle.lock_plan_lines.specs.declared.wait_line.WaitLine.{WaitLine}
-use Rattle.lock_plan_lines.specs.declared.wait_line.WaitLine.TheVariants.{Once, Until, OrTimeout, UntilOrTimeout}
+use Rattle.lock_plan_lines.specs.declared.text_line.WaitLine.{WaitLine}
+use Rattle.lock_plan_lines.specs.declared.text_line.WaitLine.TheVariants.{Once, Until, OrTimeout, UntilOrTimeout}
 use Rattle.lock_plan_lines.specs.PlanLines.{IsFlagField, has_flag, is_name, look_fields, timeout_fields, until_fields}
 use Rattle.lock_plan_lines.proofs.LastFields.{has_field, if_any}
 use Rattle.lock_plan_lines.proofs.wait.read_end.Goals as goal
