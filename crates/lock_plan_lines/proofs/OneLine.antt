@@ -61,11 +61,10 @@ by_word word =
     (cond (bytes_eq word (codes "condvar")) (Some (Named named.Condvar))
     (cond (bytes_eq word (codes "set")) (Some (Named named.Set))
     (cond (bytes_eq word (codes "clear")) (Some (Named named.Clear))
-    (cond (bytes_eq word (codes "if")) (Some (Named named.If))
     (cond (bytes_eq word (codes "notify_one")) (Some (Named named.NotifyOne))
     (cond (bytes_eq word (codes "notify_all")) (Some (Named named.NotifyAll))
     (cond (bytes_eq word (codes "start")) (Some (Named named.Start))
-    (cond (bytes_eq word (codes "join")) (Some (Named named.Join)) None)))))))))))))))))))))))))))
+    (cond (bytes_eq word (codes "join")) (Some (Named named.Join)) None))))))))))))))))))))))))))
 
 kind_by_word : (kind : Kind) → by_word (kind_word kind) ≡ Some (of_kind kind)
 unfolding by_word
@@ -262,7 +261,8 @@ first_word fields =
     (cond (bytes_eq word (codes "assert")) 3
     (cond (bytes_eq word (codes "wait")) 4
     (cond (bytes_eq word (codes "or")) 5
-    (cond (bytes_eq word (codes "until")) 6 0)))))
+    (cond (bytes_eq word (codes "until")) 6
+    (cond (bytes_eq word (codes "if")) 7 0))))))
 
 same_look : (value other : Bool) (flag another : List ℕ) → look_fields value flag ≡ look_fields other another
     → (value ≡ other) × (flag ≡ another)
@@ -327,6 +327,10 @@ one_line (text.Try is_rwlock step) (text.Try for_rwlock other) names others ok g
     let name : names.name ≡ others.name = cc in
     let both = one_verb is_rwlock for_rwlock step other ok.0 good.0 words in
     (ap (λ (b : Bool). text.Try b step) both.0 ∙ ap (text.Try for_rwlock) both.1, same_one names others named called name)
+one_line (text.If value) (text.If other) names others ok good named called same =
+    let looks : look_fields value names.name ≡ look_fields other others.name = cc in
+    let both = same_look value other names.name others.name looks in
+    (ap text.If both.0, same_one names others named called both.1)
 one_line (text.Until value) (text.Until other) names others ok good named called same =
     let looks : look_fields value names.name ≡ look_fields other others.name = cc in
     let both = same_look value other names.name others.name looks in
@@ -344,6 +348,10 @@ one_line (text.Wait wait) (text.Wait other) names others ok good named called sa
 one_line (text.Word word) (text.Word other) names others ok good named called same =
     let words : block_word word ≡ block_word other = cc in
     (ap text.Word (same_words word other words), named ∙ sym called)
+one_line (text.Word word) (text.If value) names others ok good named called same =
+    let none : [] ≡ look_fields value others.name = cc in absurd (some_look value others.name none)
+one_line (text.If value) (text.Word word) names others ok good named called same =
+    let none : [] ≡ look_fields value names.name = cc in absurd (some_look value names.name none)
 one_line (text.Word word) (text.Assert value) names others ok good named called same =
     let none : [] ≡ look_fields value others.name = cc in absurd (some_look value others.name none)
 one_line (text.Assert value) (text.Word word) names others ok good named called same =

@@ -17,7 +17,7 @@ use Rattle.lock_plan_lines.specs.declared.block_line.PlainLine.TheVariants.{Idle
 -- whether a line begins a block, ends one, or parts one: an `else`, an `or` or an `end`
 abbrev pub begins : BlockLine → Bool
 begins (Try call) = true
-begins (If flag) = true
+begins (If flag value) = true
 begins (Until flag value) = true
 begins (TimedSleep cond) = true
 begins (Word Repeat) = true
@@ -166,7 +166,8 @@ place_for (Try call) inside past = two_ways (act.Try call) inside past
 place_for (Word Repeat) inside past = two_ways (act.Choose block.Repeat) inside past
 place_for (Word Forever) inside past = one_way (act.Choose block.Repeat) inside
 place_for (Word word) inside past = two_ways (act.Choose block.Either) inside past
-place_for (If flag) inside past = two_ways (act.Choose (block.If flag)) inside past
+place_for (If flag true) inside past = two_ways (act.Choose (block.If flag)) inside past
+place_for (If flag false) inside past = two_ways (act.Choose (block.If flag)) past inside
 place_for (Until flag true) inside past = two_ways (act.Choose (block.If flag)) past inside
 place_for (Until flag false) inside past = two_ways (act.Choose (block.If flag)) inside past
 place_for (TimedSleep cond) inside past = two_ways (act.Choose (block.TimedSleep cond)) inside past

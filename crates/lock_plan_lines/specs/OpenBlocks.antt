@@ -17,11 +17,13 @@ opened open_blocks = reverse open_blocks.blocks.items
 abbrev pub begun : List OpenBlock → OpenBlock → Option (List OpenBlock)
 begun blocks block = if nat_lt (length blocks) 64 then Some (block ∷ blocks) else None
 
--- a block after a word of it: its part that the word begins, or none where the word ends it; other words do not fit
+-- a block after a word of it: its part that the word begins, or none where the word ends it; other words do not fit. An
+-- `else` may be left out, an `or` may not
 abbrev pub turned : OpenBlock → BlockWord → Option (Option OpenBlock)
 turned inside.Try Else = Some (Some inside.Else)
 turned inside.Either Or = Some (Some inside.Or)
 turned inside.Or Or = Some (Some inside.Or)
+turned inside.Try End = Some None
 turned inside.Else End = Some None
 turned inside.Repeat End = Some None
 turned inside.Or End = Some None
@@ -44,7 +46,7 @@ has_loop blocks = list_any is_loop_part blocks
 abbrev pub open_after : List OpenBlock → BlockLine → Option (List OpenBlock)
 open_after blocks (Call call) = Some blocks
 open_after blocks (Try call) = begun blocks inside.Try
-open_after blocks (If flag) = begun blocks inside.Try
+open_after blocks (If flag value) = begun blocks inside.Try
 open_after blocks (TimedSleep cond) = begun blocks inside.Try
 open_after blocks (Until flag value) = begun blocks inside.Repeat
 open_after blocks (Word Repeat) = begun blocks inside.Repeat

@@ -17,13 +17,13 @@ use Rattle.lock_plan_lines.specs.declared.block_line.BlockWord.{BlockWord}
 use Rattle.lock_plan_lines.specs.declared.block_line.BlockWord.TheVariants.{Repeat, Forever, Either, Else, Or, End, Leave, Return}
 use Rattle.lock_plan_lines.specs.declared.name.LineNames.{LineNames}
 use Rattle.lock_plan_lines.specs.declared.text_line.NamedWord.{NamedWord}
-use Rattle.lock_plan_lines.specs.declared.text_line.NamedWord.TheVariants.{Flag, Condvar, Set, Clear, If, NotifyOne, NotifyAll, Start, Join}
+use Rattle.lock_plan_lines.specs.declared.text_line.NamedWord.TheVariants.{Flag, Condvar, Set, Clear, NotifyOne, NotifyAll, Start, Join}
 use Rattle.lock_plan_lines.specs.declared.text_line.Parties.{Parties}
 use Rattle.lock_plan_lines.specs.declared.text_line.Parties.TheVariants.{One, Copies, Any}
 use Rattle.lock_plan_lines.specs.declared.text_line.PlanLine.{PlanLine}
 use Rattle.lock_plan_lines.specs.declared.text_line.PlanLine.TheVariants.{Lock, Party, Call, Named}
 use Rattle.lock_plan_lines.specs.declared.text_line.TextLine.{TextLine}
-use Rattle.lock_plan_lines.specs.declared.text_line.TextLine.TheVariants.{Plan, Try, Word, Until, Assert, Wait}
+use Rattle.lock_plan_lines.specs.declared.text_line.TextLine.TheVariants.{Plan, Try, Word, If, Until, Assert, Wait}
 use Rattle.lock_plan_lines.specs.declared.text_line.WaitLine.{WaitLine}
 use Rattle.lock_plan_lines.specs.declared.text_line.WaitLine.TheVariants as wait
 use Rattle.script_text.specs.Lines.{fields_of}
@@ -51,7 +51,6 @@ named_word Flag = codes "flag"
 named_word Condvar = codes "condvar"
 named_word Set = codes "set"
 named_word Clear = codes "clear"
-named_word If = codes "if"
 named_word NotifyOne = codes "notify_one"
 named_word NotifyAll = codes "notify_all"
 named_word Start = codes "start"
@@ -176,6 +175,7 @@ abbrev pub text_fields : TextLine → TextNames → List (List ℕ)
 text_fields (Plan line) names = plan_fields line names.name
 text_fields (Try is_rwlock step) names = codes "try" ∷ step_word is_rwlock step ∷ names.name ∷ []
 text_fields (Word word) names = block_word word ∷ []
+text_fields (If value) names = codes "if" ∷ look_fields value names.name
 text_fields (Until value) names = codes "repeat" ∷ codes "until" ∷ look_fields value names.name
 text_fields (Assert value) names = codes "assert" ∷ look_fields value names.name
 text_fields (Wait wait) names = codes "wait" ∷ wait_fields wait names
@@ -191,6 +191,7 @@ abbrev pub IsTextLine : TextLine → Type 0
 IsTextLine (Plan line) = IsPlanLine line
 IsTextLine (Try is_rwlock step) = IsVerb is_rwlock step × IsTrue (is_tried step)
 IsTextLine (Word word) = ⊤
+IsTextLine (If value) = ⊤
 IsTextLine (Until value) = ⊤
 IsTextLine (Assert value) = ⊤
 IsTextLine (Wait wait) = ⊤
@@ -222,6 +223,7 @@ abbrev pub IsNamed : TextLine → TextNames → Type 0
 IsNamed (Plan line) names = IsOneName names
 IsNamed (Try is_rwlock step) names = IsOneName names
 IsNamed (Word word) names = names ≡ no_names
+IsNamed (If value) names = IsOneName names
 IsNamed (Until value) names = IsOneName names
 IsNamed (Assert value) names = IsOneName names
 IsNamed (Wait wait) names = AreWaitNames (has_flag wait) names

@@ -13,8 +13,8 @@ pub enum BlockLine {
     Call(PlanCall),
     Try(PlanCall),
     Word(BlockWord),
-    /// Begins a block that branches on a flag: its first part is for true, and its `else` for false.
-    If(usize),
+    /// Begins a block that branches on a flag: its first part is for this value, and its `else` for the other one.
+    If(usize, bool),
     /// Begins a loop, which a party leaves where the flag has this value.
     Until(usize, bool),
     /// Begins a block: a sleep on the condition variable. Its first part is for a notification, and its `else` for a timeout.
@@ -74,7 +74,7 @@ impl BlockLine {
         matches!(
             self,
             BlockLine::Try(_)
-                | BlockLine::If(_)
+                | BlockLine::If(..)
                 | BlockLine::Until(..)
                 | BlockLine::TimedSleep(_)
                 | BlockLine::Word(BlockWord::Repeat | BlockWord::Forever | BlockWord::Either)

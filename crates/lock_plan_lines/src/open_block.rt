@@ -66,7 +66,7 @@ impl OpenBlocks {
     {
         match line {
             BlockLine::Call(_) | BlockLine::Plain(_) => Ok(true),
-            BlockLine::Try(_) | BlockLine::If(_) | BlockLine::TimedSleep(_) => {
+            BlockLine::Try(_) | BlockLine::If(..) | BlockLine::TimedSleep(_) => {
                 self.begin(OpenBlock::Try)
             }
             BlockLine::Until(..) | BlockLine::Word(BlockWord::Repeat | BlockWord::Forever) => {
@@ -118,7 +118,8 @@ fn turned(block: OpenBlock, word: BlockWord) -> Option<Option<OpenBlock>>
     match (block, word) {
         (OpenBlock::Try, BlockWord::Else) => Some(Some(OpenBlock::Else)),
         (OpenBlock::Either | OpenBlock::Or, BlockWord::Or) => Some(Some(OpenBlock::Or)),
-        (OpenBlock::Else | OpenBlock::Repeat | OpenBlock::Or, BlockWord::End) => Some(None),
+        (OpenBlock::Try | OpenBlock::Else | OpenBlock::Repeat | OpenBlock::Or, BlockWord::End) =>
+            Some(None),
         _ => None,
     }
 }

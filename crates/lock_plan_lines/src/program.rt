@@ -95,11 +95,13 @@ fn place_for(line: BlockLine, inside: usize, past: usize) -> ProgramPlace
         BlockLine::Word(BlockWord::Repeat) => two_ways(Act::Choose(Block::Repeat), inside, past),
         BlockLine::Word(BlockWord::Forever) => one_way(Act::Choose(Block::Repeat), inside),
         BlockLine::Word(_) => two_ways(Act::Choose(Block::Either), inside, past),
-        BlockLine::If(flag) | BlockLine::Until(flag, false) => {
+        BlockLine::If(flag, true) | BlockLine::Until(flag, false) => {
             two_ways(Act::Choose(Block::If(flag)), inside, past)
         }
+        BlockLine::If(flag, false) | BlockLine::Until(flag, true) => {
+            two_ways(Act::Choose(Block::If(flag)), past, inside)
+        }
         BlockLine::TimedSleep(cond) => two_ways(Act::Choose(Block::TimedSleep(cond)), inside, past),
-        BlockLine::Until(flag, true) => two_ways(Act::Choose(Block::If(flag)), past, inside),
         BlockLine::Plain(line) => one_way(Act::Signal(signal_of(line)), inside),
     }
 }

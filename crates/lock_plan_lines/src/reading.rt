@@ -32,6 +32,10 @@ pub fn read_line(text: Part) -> Option<(TextLine, LineNames)>
             let (is_rwlock, step, name) = read_try(rest)?;
             Some((TextLine::Try(is_rwlock, step), one_name(name)))
         }
+        "if" => {
+            let (value, name) = read_look(rest)?;
+            Some((TextLine::If(value), one_name(name)))
+        }
         "repeat" => {
             let (value, name) = read_until(rest)?;
             Some((TextLine::Until(value), one_name(name)))
@@ -82,7 +86,7 @@ pub(crate) fn is_tried(step: LockStep) -> bool
     )
 }
 
-/// Reads a line that is no try, no loop, no assertion and no wait, and its name, by the first field and the others.
+/// Reads a line that is no try, no `if`, no loop, no assertion and no wait, and its name, by the first field and the others.
 fn read_plan_line<'a>(word: &str, rest: &'a str) -> Option<(PlanLine, &'a str)>
     ensures said { IfSome result (λ found. IsPlanLine found.0 × (IsTrue (is_name found.1.now)
         × (plan_fields found.0 found.1.now ≡ word.now ∷ fields_of rest.now))) }

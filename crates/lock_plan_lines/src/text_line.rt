@@ -14,6 +14,8 @@ pub enum TextLine {
     Try(bool, LockStep),
     /// A line of a block. It names nothing.
     Word(BlockWord),
+    /// Begins a block whose first part is for this value of the flag that it names.
+    If(bool),
     /// Begins a loop, which a party leaves where the flag that it names has this value.
     Until(bool),
     /// Asserts that the flag that it names has this value.
@@ -52,7 +54,6 @@ pub enum NamedWord {
     Condvar,
     Set,
     Clear,
-    If,
     NotifyOne,
     NotifyAll,
     Start,
@@ -69,7 +70,6 @@ pub(crate) fn named_word(word: &str) -> Option<NamedWord>
         "condvar" => Some(NamedWord::Condvar),
         "set" => Some(NamedWord::Set),
         "clear" => Some(NamedWord::Clear),
-        "if" => Some(NamedWord::If),
         "notify_one" => Some(NamedWord::NotifyOne),
         "notify_all" => Some(NamedWord::NotifyAll),
         "start" => Some(NamedWord::Start),

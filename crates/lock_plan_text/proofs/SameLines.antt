@@ -10,10 +10,10 @@ use Rattle.lock_plan_lines.specs.declared.block_line.BlockLine.TheVariants as bl
 use Rattle.lock_plan_lines.specs.declared.block_line.PlainLine.TheVariants as plain
 use Rattle.lock_plan_lines.specs.declared.block_line.BlockWord.TheVariants.{End}
 use Rattle.lock_plan_lines.specs.declared.text_line.NamedWord.{NamedWord}
-use Rattle.lock_plan_lines.specs.declared.text_line.NamedWord.TheVariants.{Set, Clear, If, NotifyOne, NotifyAll, Start, Join}
+use Rattle.lock_plan_lines.specs.declared.text_line.NamedWord.TheVariants.{Set, Clear, NotifyOne, NotifyAll, Start, Join}
 use Rattle.lock_plan_lines.specs.declared.text_line.PlanLine.TheVariants.{Call, Named}
 use Rattle.lock_plan_lines.specs.declared.text_line.TextLine.{TextLine}
-use Rattle.lock_plan_lines.specs.declared.text_line.TextLine.TheVariants.{Plan, Try, Word, Until, Assert, Wait}
+use Rattle.lock_plan_lines.specs.declared.text_line.TextLine.TheVariants.{Plan, Try, Word, If, Until, Assert, Wait}
 use Rattle.lock_plan_lines.specs.declared.text_line.WaitLine.{WaitLine}
 use Rattle.lock_plan_lines.specs.declared.text_line.WaitLine.TheVariants as wait
 use Rattle.lock_plan_lines.specs.PlanLines.{TextNames}
@@ -58,7 +58,6 @@ module _ (draft next : Draft) (keeps : Keeps draft next) where
   line_kept : (word : NamedWord) (name : List ℕ) → IsKept (named_line draft word name) (named_line next word name)
   line_kept Set name = map_kept _ _ _ (keeps.flags name)
   line_kept Clear name = map_kept _ _ _ (keeps.flags name)
-  line_kept If name = map_kept _ _ _ (keeps.flags name)
   line_kept NotifyOne name = map_kept _ _ _ (keeps.conds name)
   line_kept NotifyAll name = map_kept _ _ _ (keeps.conds name)
   line_kept Start name = map_kept _ _ _ (keeps.mentions name)
@@ -103,6 +102,8 @@ module _ (draft next : Draft) (keeps : Keeps draft next) where
   kept_lines (Try for_rwlock step) names =
       map_kept one_line _ _ (map_kept block.Try _ _ (call_kept for_rwlock step names.name))
   kept_lines (Word word) names = λ lines is. is
+  kept_lines (If value) names =
+      map_kept one_line _ _ (map_kept (λ (flag : ℕ). block.If flag value) _ _ (keeps.flags names.name))
   kept_lines (Until value) names =
       map_kept one_line _ _ (map_kept (λ (flag : ℕ). block.Until flag value) _ _ (keeps.flags names.name))
   kept_lines (Assert value) names =

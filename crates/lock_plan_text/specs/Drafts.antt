@@ -17,14 +17,14 @@ use Rattle.lock_plan_lines.specs.declared.block_line.BlockLine.{BlockLine}
 use Rattle.lock_plan_lines.specs.declared.block_line.BlockLine.TheVariants as block
 use Rattle.lock_plan_lines.specs.declared.block_line.BlockWord.TheVariants.{Else, End, Leave}
 use Rattle.lock_plan_lines.specs.declared.text_line.NamedWord.{NamedWord}
-use Rattle.lock_plan_lines.specs.declared.text_line.NamedWord.TheVariants.{Flag, Condvar, Set, Clear, If, NotifyOne, NotifyAll, Start, Join}
+use Rattle.lock_plan_lines.specs.declared.text_line.NamedWord.TheVariants.{Flag, Condvar, Set, Clear, NotifyOne, NotifyAll, Start, Join}
 use Rattle.lock_plan_lines.specs.declared.open_block.OpenBlock.{OpenBlock}
 use Rattle.lock_plan_lines.specs.declared.block_line.PlainLine.TheVariants as plain
 use Rattle.lock_plan_lines.specs.declared.text_line.Parties.{Parties}
 use Rattle.lock_plan_lines.specs.declared.text_line.Parties.TheVariants.{One, Copies, Any}
 use Rattle.lock_plan_lines.specs.declared.text_line.PlanLine.TheVariants.{Lock, Party, Call, Named}
 use Rattle.lock_plan_lines.specs.declared.text_line.TextLine.{TextLine}
-use Rattle.lock_plan_lines.specs.declared.text_line.TextLine.TheVariants.{Plan, Try, Word, Until, Assert, Wait}
+use Rattle.lock_plan_lines.specs.declared.text_line.TextLine.TheVariants.{Plan, Try, Word, If, Until, Assert, Wait}
 use Rattle.lock_plan_lines.specs.declared.text_line.WaitLine.{WaitLine}
 use Rattle.lock_plan_lines.specs.declared.text_line.WaitLine.TheVariants as wait
 use Rattle.lock_plan_lines.specs.OpenBlocks.{has_loop, open_after}
@@ -206,7 +206,6 @@ named_line draft Flag name = None
 named_line draft Condvar name = None
 named_line draft Set name = option_map (λ flag. block.Plain (plain.Set flag)) (place_of draft.flag_names name)
 named_line draft Clear name = option_map (λ flag. block.Plain (plain.Clear flag)) (place_of draft.flag_names name)
-named_line draft If name = option_map block.If (place_of draft.flag_names name)
 named_line draft NotifyOne name = option_map (λ cond. block.Plain (plain.NotifyOne cond)) (place_of draft.cond_names name)
 named_line draft NotifyAll name = option_map (λ cond. block.Plain (plain.NotifyAll cond)) (place_of draft.cond_names name)
 named_line draft Start name = option_map (λ party. block.Plain (plain.Start party)) (place_of draft.mentions name)
@@ -272,6 +271,8 @@ own_lines draft (Plan (Named word)) names = option_map one_line (named_line draf
 own_lines draft (Try for_rwlock step) names =
     option_map one_line (option_map block.Try (named_call draft for_rwlock step names.name))
 own_lines draft (Word word) names = Some (one_line (block.Word word))
+own_lines draft (If value) names =
+    option_map one_line (option_map (λ flag. block.If flag value) (place_of draft.flag_names names.name))
 own_lines draft (Until value) names =
     option_map one_line (option_map (λ flag. block.Until flag value) (place_of draft.flag_names names.name))
 own_lines draft (Assert value) names =

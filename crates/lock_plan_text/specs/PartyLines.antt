@@ -30,7 +30,7 @@ plain_in_rows draft (Join mention) = Join (party_row draft mention)
 plain_in_rows draft line = line
 
 abbrev pub in_rows : Draft → BlockLine → BlockLine
-in_rows draft (If flag) = If (flag_row draft flag)
+in_rows draft (If flag value) = If (flag_row draft flag) value
 in_rows draft (Until flag value) = Until (flag_row draft flag) value
 in_rows draft (Plain line) = Plain (plain_in_rows draft line)
 in_rows draft line = line

@@ -45,7 +45,7 @@ impl PlanDraft {
 fn first_word(line: BlockLine) -> &'static str {
     match line {
         BlockLine::Try(_) => "try",
-        BlockLine::If(_) => "if",
+        BlockLine::If(..) => "if",
         BlockLine::Until(..) | BlockLine::Word(BlockWord::Repeat) => "repeat",
         BlockLine::Word(BlockWord::Forever) => "forever",
         BlockLine::Word(_) => "either",

@@ -147,7 +147,6 @@ impl PlanDraft {
     /// Explains an `end`.
     fn end_fault(&self) -> &'static str {
         match self.blocks.blocks.last() {
-            Some(OpenBlock::Try) => "'end' before 'else'",
             Some(OpenBlock::Either) => "'end' before 'or'",
             _ => "'end' without a block",
         }

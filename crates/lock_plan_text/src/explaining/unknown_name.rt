@@ -19,7 +19,7 @@ impl PlanDraft {
     {
         let kind = match line {
             TextLine::Plan(PlanLine::Call(..)) | TextLine::Try(..) => NameKind::Lock,
-            TextLine::Until(_) | TextLine::Assert(_) => NameKind::Flag,
+            TextLine::If(_) | TextLine::Until(_) | TextLine::Assert(_) => NameKind::Flag,
             TextLine::Plan(PlanLine::Named(word)) => kind_after(word)?,
             TextLine::Wait(_) => return self.unknown_in_wait(names),
             TextLine::Plan(_) | TextLine::Word(_) => return None,
@@ -76,7 +76,7 @@ impl PlanDraft {
 /// Returns of which kind a name after a word is that a line above has to have.
 fn kind_after(word: NamedWord) -> Option<NameKind> {
     match word {
-        NamedWord::Set | NamedWord::Clear | NamedWord::If => Some(NameKind::Flag),
+        NamedWord::Set | NamedWord::Clear => Some(NameKind::Flag),
         NamedWord::NotifyOne | NamedWord::NotifyAll => Some(NameKind::Condvar),
         NamedWord::Flag | NamedWord::Condvar | NamedWord::Start | NamedWord::Join => None,
     }

@@ -84,6 +84,7 @@ impl PlanDraft {
             TextLine::Plan(PlanLine::Call(..))
             | TextLine::Try(..)
             | TextLine::Word(_)
+            | TextLine::If(_)
             | TextLine::Until(_)
             | TextLine::Assert(_)
             | TextLine::Wait(_) => self.add_said(alloc, number, line, names),

@@ -46,6 +46,10 @@ impl PlanDraft {
                 None => Ok(None),
             },
             TextLine::Word(word) => one_line(alloc, BlockLine::Word(word)),
+            TextLine::If(value) => match self.names.flags.place_of(names.name) {
+                Some(flag) => one_line(alloc, BlockLine::If(flag, value)),
+                None => Ok(None),
+            },
             TextLine::Until(value) => match self.names.flags.place_of(names.name) {
                 Some(flag) => one_line(alloc, BlockLine::Until(flag, value)),
                 None => Ok(None),
@@ -67,7 +71,6 @@ impl PlanDraft {
         let mentions = &self.mentions;
         let line = match word {
             NamedWord::Flag | NamedWord::Condvar => return None,
-            NamedWord::If => return Some(BlockLine::If(flags.place_of(name)?)),
             NamedWord::Set => PlainLine::Set(flags.place_of(name)?),
             NamedWord::Clear => PlainLine::Clear(flags.place_of(name)?),
             NamedWord::NotifyOne => PlainLine::NotifyOne(conds.place_of(name)?),

@@ -76,7 +76,7 @@ impl PlanDraft {
         ensures { IfSome result (λ found. found ≡ in_rows (drafted self.now) line) }
     {
         let found = match line {
-            BlockLine::If(flag) => BlockLine::If(self.flag_row(flag)?),
+            BlockLine::If(flag, value) => BlockLine::If(self.flag_row(flag)?, value),
             BlockLine::Until(flag, value) => BlockLine::Until(self.flag_row(flag)?, value),
             BlockLine::Plain(line) => BlockLine::Plain(self.plain_in_rows(line)?),
             BlockLine::Call(_)
