@@ -33,7 +33,7 @@ BEGINS = {*BLOCKS, "until", "timed sleep"}
 LOOPS = {"repeat", "until", "forever"}
 # what a line in the midst of a block makes of it, by the line with which the block began or went on; and what may come before its end
 TURNS = {("else", "try"): "else", ("else", "if"): "else", ("else", "timed sleep"): "else", ("or", "either"): "or", ("or", "or"): "or"}
-ENDS = {*LOOPS, "else", "or"}
+ENDS = {*LOOPS, "try", "if", "else", "or"}
 PARTS = {"else", "or", "end"}
 SLEEPS = {"sleep", "timed sleep"}
 DECLARED = {"mutex", "rwlock", "reentrant", "flag", "condvar"}
@@ -76,14 +76,14 @@ class Line(NamedTuple):
     word: str
     call: Call | None = None
     name: str = ""
-    # the value of the flag at which `until` ends, and which `assert` wants
+    # the value of the flag at which `until` ends, for which the first part of an `if` is, and which `assert` wants
     value: bool = True
 
 
 class Place(NamedTuple):
     """A place of a program: its line, the place after it, and the one after a refused try or a timeout, or where a part is passed.
 
-    The first part of an `if` is passed where its flag is false.
+    The first part of an `if` is passed where its flag has the other value.
     """
 
     line: Line
@@ -258,12 +258,12 @@ def lines_of(plan, number, words):
             return [Line(number, "call", Call(word, lock))]
         case [("start" | "join") as word, name] if NAME.fullmatch(name):
             return [Line(number, word, name=name)]
-        case [("set" | "clear" | "if") as word, name] if name in plan.flags:
+        case [("set" | "clear") as word, name] if name in plan.flags:
             return [Line(number, word, name=name)]
         case [("notify_one" | "notify_all") as word, name] if name in plan.condvars:
             return [Line(number, word, name=name)]
-        case ["assert", *test] | ["repeat", "until", *test]:
-            return test_lines(plan, number, "assert" if words[0] == "assert" else "until", test)
+        case ["assert" | "if", *test] | ["repeat", "until", *test]:
+            return test_lines(plan, number, "until" if words[0] == "repeat" else words[0], test)
         case ["wait", condvar, mutex, *rest] if condvar in plan.condvars and mutex in plan.locks:
             return wait_lines(plan, number, condvar, mutex, rest)
     return []

@@ -30,7 +30,7 @@ SPOILS = [
 ]
 STRAY_BLOCKS = ["repeat", "either", "else", "or", "end", "forever", "repeat 2", "leave", "return"]
 STRAY_SIGNALS = [
-    "set flag0", "if flag0", "wait cond0 lock0", "start p1", "join p9", "notify_all cond0", "assert flag0", "repeat until flag0",
+    "set flag0", "if flag0", "if not flag0", "wait cond0 lock0", "start p1", "join p9", "notify_all cond0", "assert flag0", "repeat until flag0",
     "wait cond0 lock0 until flag0 or timeout",
 ]
 ACQUISITIONS = [("read", "shared"), ("read", "shared"), ("write", "exclusive"), ("upgradable_read", "upgradable")]
@@ -256,7 +256,7 @@ class Maker(NamedTuple):
         if word == "repeat":
             return self.loop(held)
         if self.signals and self.signals.flags and self.rng.random() < 0.5:
-            return [f"if {self.rng.choice(self.signals.flags)}", *self.part(held), "else", *self.part(held), "end"]
+            return [self.test(self.rng.choice(self.signals.flags)), *self.part(held), *self.other_part(held), "end"]
         if word == "either":
             parts = [["or", *self.part(held)] for _ in range(self.rng.randint(1, 3))]
             return ["either", *self.part(held), *[line for part in parts for line in part], "end"]
@@ -266,7 +266,15 @@ class Maker(NamedTuple):
         word, lock, given, taken = self.rng.choice(tried)
         undone = "downgrade_to_upgradable" if given else RELEASES[self.kinds[lock]][taken]
         after = [it for it in held if it != (lock, given)] + [(lock, taken)]
-        return [f"try {word} {lock}", *self.part(after), f"{undone} {lock}", "else", *self.part(held), "end"]
+        return [f"try {word} {lock}", *self.part(after), f"{undone} {lock}", *self.other_part(held), "end"]
+
+    def test(self, flag):
+        """The first line of a block that branches on the flag."""
+        return f"if {self.rng.choice(['', 'not '])}{flag}"
+
+    def other_part(self, held):
+        """The `else` of a party with these holds and the lines below it, or nothing."""
+        return ["else", *self.part(held)] if self.rng.random() < 0.7 else []
 
     def may_try(self, word, lock):
         """Whether the call may be tried. A try that acquires a fair lock is a fault of the plan."""
@@ -287,8 +295,10 @@ class Maker(NamedTuple):
         """A branch of a party with these holds in which it may go out of a loop, or end."""
         rng = self.rng
         jump = ["leave"] if rng.random() < (0.8 if is_only else 0.4) else [*self.releases_of(held), "return"]
-        head, between = rng.choice([("either", "or"), *[(f"if {it}", "else") for it in (self.signals.flags if self.signals else [])]])
+        head, between = rng.choice([("either", "or"), *[(self.test(it), "else") for it in (self.signals.flags if self.signals else [])]])
         found = [head, *jump, between, "end"] if rng.random() < 0.5 else [head, between, *jump, "end"]
+        if between == "else" and rng.random() < 0.5:
+            found = [head, *jump, "end"]
         return ["repeat 2", *found, "end"] if rng.random() < 0.2 else found
 
     def releases_of(self, held):
