@@ -6,6 +6,7 @@ pub mod Worlds
 pub mod CallFaults
 pub mod Known
 pub mod Points
+pub mod LastHolds
 pub mod Copies
 pub mod Below
 pub mod Checks
