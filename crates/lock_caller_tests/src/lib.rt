@@ -1,4 +1,4 @@
-//! What a caller of `lock_api` knows, in small callers and signatures.
+//! What a caller of `lock_api` knows, in small callers and signatures; and its names of locks.
 #![tactic(auto)]
 
 #[cfg(test)]

@@ -3,7 +3,6 @@ mod desk;
 mod first_lock;
 mod gate;
 mod in_threads;
-mod named;
 mod parts;
 mod pool;
 mod queue;
