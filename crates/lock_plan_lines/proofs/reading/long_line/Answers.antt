@@ -1,4 +1,4 @@
-use Rattle.std.proofs.Common.{◌≡◌, ◌∙◌}
+use Rattle.std.proofs.Common.{◌∙◌}
 use Rattle.lock_plan_lines.proofs.LastFields.{if_any, long_line, mutex_line}
 use Rattle.lock_plan_lines.proofs.reading.long_line.Goals as goal
 
