@@ -103,13 +103,13 @@ class Party(NamedTuple):
 
 
 class Plan(NamedTuple):
-    """Locks by name, flags, condition variables, parties, the lines that name a party, and where the text has come to.
+    """Locks by name, flags each with its first value, condition variables, parties, the lines that name a party, and where the text has come to.
 
     That is the parties of the last line of parties, whose lines are below it, and the blocks open there.
     """
 
     locks: dict
-    flags: list
+    flags: dict
     condvars: list
     parties: list
     mentions: list
@@ -142,7 +142,7 @@ def read_plan(text):
     words = [] if len(text) > LONGEST_INPUT else expanded([it for it in words if it[1]])
     if len(text) > LONGEST_INPUT or length_of(words) > LONGEST_INPUT:
         raise Fault("input too long")
-    plan = Plan({}, [], [], [], [], [], [])
+    plan = Plan({}, {}, [], [], [], [], [])
     for number, fields in words:
         if not read_line(plan, number, fields):
             raise Fault(f"bad line {number}")
@@ -320,10 +320,13 @@ def read_names(plan, word, name, *rest):
     """Adds the lock, flag, condition variable or parties of a line with this word and this name, and returns whether it is right."""
     if word in ("party", "server"):
         return read_parties(plan, word == "server", name, rest)
-    if word in ("flag", "condvar"):
-        names = plan.flags if word == "flag" else plan.condvars
-        names.append(name)
-        return not rest and names.count(name) == 1
+    if word == "flag":
+        is_right = rest in ((), ("true",)) and name not in plan.flags
+        plan.flags[name] = rest == ("true",)
+        return is_right
+    if word == "condvar":
+        plan.condvars.append(name)
+        return not rest and plan.condvars.count(name) == 1
     limit = 1 if word == "mutex" else number_of("".join(rest[:1]), LARGEST_LIMIT)
     last = rest[word != "mutex" :]
     has_bar, is_fair = word == "rwlock" and last == ("bar",), word != "reentrant" and last == ("fair",)

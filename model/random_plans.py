@@ -25,7 +25,7 @@ CHANGES = {
 # texts and lines with which a plan may become wrong
 SPOILS = [
     "", " ", "\n", "x", "0", "\r", "\u00e9", " bar", " fair", "4294967296", "lock0", "party p1\n", "server p 2\n", "mutex lock0\n",
-    "end\n", " not", " until flag0", "flag flag0\n", "condvar cond0\n", "start p1\n", " or timeout", "[i]", "[i+1]", "[2]", " 2",
+    "end\n", " not", " until flag0", " true", "flag flag0\n", "condvar cond0\n", "start p1\n", " or timeout", "[i]", "[i+1]", "[2]", " 2",
     "repeat 2\n", "leave\n", "return\n",
 ]
 STRAY_BLOCKS = ["repeat", "either", "else", "or", "end", "forever", "repeat 2", "leave", "return"]
@@ -103,7 +103,7 @@ def random_signals(rng, lines, kinds, heads):
     kinds["lock0"], lines[0] = "mutex", lock_line(rng, "lock0", "mutex", 1)
     flags = [f"flag{it}" for it in range(rng.randint(0, 2))]
     condvars = [f"cond{it}" for it in range(rng.choice([0, 1, 1, 2]))]
-    lines += [f"flag {it}" for it in flags] + [f"condvar {it}" for it in condvars]
+    lines += [f"flag {it}{rng.choice(['', '', ' true'])}" for it in flags] + [f"condvar {it}" for it in condvars]
     parties = [name for _, names in heads for name in names]
     return Signals(flags, condvars, parties, {it for it in parties if rng.random() < 0.4})
 

@@ -1,5 +1,5 @@
 -- The texts of choices and signals.
-use Rattle.std.specs.Prelude.{ℕ, zero, suc, Bool, true, false, if◌then◌else◌, List, [], ◌∷◌, ◌++◌, length, codes, Option, Some, None}
+use Rattle.std.specs.Prelude.{ℕ, zero, suc, Bool, true, false, not, if◌then◌else◌, List, [], ◌∷◌, ◌++◌, length, codes, Option, Some, None}
 use Rattle.std.specs.List.{join_by}
 use Rattle.std.proofs.Common.{get_or}
 use Rattle.lock_plan.specs.declared.program.Act.{Act}
@@ -13,7 +13,7 @@ use Rattle.lock_plan.specs.Signals.{sleeps_on}
 use Rattle.lock_plan.specs.Worlds.{Stand, no_stand, act_of}
 use Rattle.lock_plan_text.specs.declared.names.Names.{Names}
 use Rattle.lock_plan_text.specs.Names.{name_of}
-use Rattle.lock_plan_answer.specs.RowNames.{is_party, row_name}
+use Rattle.lock_plan_answer.specs.RowNames.{is_party, row_name, value_of}
 
 -- the act of a row; one past the last has ended
 abbrev pub act_at : List Stand → ℕ → Option Act
@@ -49,26 +49,30 @@ rows_text names (row ∷ rows) = join_by (row_name names) (codes ", ") (row ∷ 
 abbrev pub notice_text : Names → ℕ → List ℕ → List ℕ
 notice_text names cond rows = name_of names.conds cond ++ (codes ": wakes " ++ rows_text names rows)
 
-abbrev pub start_word : Bool → List ℕ
-start_word true = codes "start "
-start_word false = codes "set "
+abbrev pub set_word : Bool → List ℕ
+set_word true = codes "set "
+set_word false = codes "clear "
 
--- an assertion of a row
+-- the word for the start of a row: a party, or a flag that gets another value
+abbrev pub start_word : Names → ℕ → List ℕ
+start_word names row = if is_party names row then codes "start " else set_word (value_of names row true)
+
+-- an assertion of a flag
 abbrev pub assert_word : Bool → List ℕ
 assert_word true = codes "assert "
 assert_word false = codes "assert not "
 
 abbrev pub assert_text : Names → ℕ → Bool → List ℕ
-assert_text names row value = assert_word value ++ row_name names row
+assert_text names row ended = assert_word (value_of names row ended) ++ row_name names row
 
 -- a signal that goes this way from a world
 abbrev pub signal_text : Names → List Stand → ℕ → Signal → List ℕ
 signal_text names w way Idle = []
 signal_text names w way (Sleep cond) = []
-signal_text names w way (Start row) = start_word (is_party names row) ++ row_name names row
-signal_text names w way (Clear row) = codes "clear " ++ row_name names row
+signal_text names w way (Start row) = start_word names row ++ row_name names row
+signal_text names w way (Clear row) = set_word (value_of names row false) ++ row_name names row
 signal_text names w way (Join row) = codes "join " ++ row_name names row
-signal_text names w way (Assert row value) = assert_text names row value
+signal_text names w way (Assert row ended) = assert_text names row ended
 signal_text names w way (NotifyOne cond) = codes "notify_one " ++ notice_text names cond (woken way)
 signal_text names w way (NotifyAll cond) = codes "notify_all " ++ notice_text names cond (sleepers w cond)
 
@@ -76,9 +80,14 @@ signal_text names w way (NotifyAll cond) = codes "notify_all " ++ notice_text na
 abbrev pub turn_text : Bool → List ℕ
 turn_text other = if other then codes ": past" else codes ": in"
 
+-- a look at a flag tells its value, whatever way the party goes
+abbrev pub value_text : Bool → List ℕ
+value_text true = codes ": true"
+value_text false = codes ": false"
+
 abbrev pub choice_text : Names → Bool → Block → List ℕ
 choice_text names other Repeat = codes "repeat" ++ turn_text other
 choice_text names other Either = codes "either" ++ turn_text other
 choice_text names other (If row) =
-    codes "if " ++ (row_name names row ++ (if other then codes ": false" else codes ": true"))
+    codes "if " ++ (row_name names row ++ value_text (value_of names row (not other)))
 choice_text names other (TimedSleep cond) = codes "timeout " ++ name_of names.conds cond

@@ -42,7 +42,7 @@ says false = codes " waits for "
 abbrev pub signal_awaited : Names → Signal → List ℕ
 signal_awaited names (Sleep cond) = codes "notify " ++ name_of names.conds cond
 signal_awaited names (Join row) = codes "join " ++ row_name names row
-signal_awaited names (Assert row value) = assert_text names row value
+signal_awaited names (Assert row ended) = assert_text names row ended
 signal_awaited names signal = []
 
 abbrev pub awaited_text : List PlanLock → Names → Act → List ℕ

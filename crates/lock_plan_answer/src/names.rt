@@ -1,8 +1,8 @@
-//! Writing the names of a plan.
+//! The names of a plan, and the values of its flags.
 ghost use Rattle.std.specs.Prelude.{◌≡◌, ◌++◌, OnOk, string_bytes};
 ghost use Rattle.std.specs.List.{flat_map};
 ghost use Rattle.lock_plan_text.specs.Names.{name_of};
-ghost use Rattle.lock_plan_answer.specs.RowNames.{is_party, party_line, row_name};
+ghost use Rattle.lock_plan_answer.specs.RowNames.{is_party, is_true_first, party_line, row_name, value_of};
 
 use lock_plan_text::Names;
 use std::alloc::AllocError;
@@ -64,4 +64,26 @@ fn write_party_line(
 {
     write_name(text, names.parties.as_slice(), party)?;
     text.push_str(says)
+}
+
+/// Returns whether a row is a flag that is true at first.
+fn is_true_first(names: &Names, row: usize) -> bool
+    ensures { result ≡ is_true_first names.now row }
+{
+    if is_party(names, row) {
+        return false;
+    }
+    let flag = row - names.parties.len();
+    names.first_values.get(flag).copied().unwrap_or(false)
+}
+
+/// Returns the value of a flag, by whether its row has ended.
+pub(crate) fn value_of(names: &Names, row: usize, ended: bool) -> bool
+    ensures { result ≡ value_of names.now row ended }
+{
+    if is_true_first(names, row) {
+        !ended
+    } else {
+        ended
+    }
 }

@@ -1,10 +1,10 @@
 //! The texts of choices and signals.
 ghost use Rattle.std.specs.Prelude.{◌≡◌, ◌++◌, OnOk, IfOk, string_bytes};
 ghost use Rattle.lock_plan.specs.Stops.{world_of};
-ghost use Rattle.lock_plan_answer.specs.RowNames.{row_name};
-ghost use Rattle.lock_plan_answer.specs.Signals.{sleepers, woken, rows_text, notice_text, start_word, assert_word, assert_text, signal_text, turn_text, choice_text};
+ghost use Rattle.lock_plan_answer.specs.RowNames.{row_name, value_of};
+ghost use Rattle.lock_plan_answer.specs.Signals.{sleepers, woken, rows_text, notice_text, set_word, start_word, assert_word, assert_text, signal_text, turn_text, value_text, choice_text};
 
-use crate::names::{is_party, write_name, write_row_name};
+use crate::names::{is_party, value_of, write_name, write_row_name};
 use crate::stand::sleep_of;
 use lock_plan::{Block, Plan, Signal};
 use lock_plan_text::Names;
@@ -31,13 +31,19 @@ pub(crate) fn write_choice(
         Block::If(row) => {
             text.push_str("if ")?;
             write_row_name(text, names, row)?;
-            text.push_str(if other { ": false" } else { ": true" })
+            text.push_str(value_text(value_of(names, row, !other)))
         }
         Block::TimedSleep(cond) => {
             text.push_str("timeout ")?;
             write_name(text, names.conds.as_slice(), cond)
         }
     }
+}
+
+fn value_text(value: bool) -> &'static str
+    ensures { result.now ≡ value_text value }
+{
+    if value { ": true" } else { ": false" }
 }
 
 fn turn_text(other: bool) -> &'static str
@@ -61,10 +67,12 @@ pub(crate) fn write_signal(
 {
     match signal {
         Signal::Idle | Signal::Sleep(_) => Ok(()),
-        Signal::Start(row) => write_with_row(text, start_word(is_party(names, row)), names, row),
-        Signal::Clear(row) => write_with_row(text, "clear ", names, row),
+        Signal::Start(row) => write_with_row(text, start_word(names, row), names, row),
+        Signal::Clear(row) => {
+            write_with_row(text, set_word(value_of(names, row, false)), names, row)
+        }
         Signal::Join(row) => write_with_row(text, "join ", names, row),
-        Signal::Assert(row, value) => write_assert(text, names, row, value),
+        Signal::Assert(row, ended) => write_assert(text, names, row, ended),
         Signal::NotifyOne(cond) => {
             let rows = woken(alloc, way)?;
             write_notice(text, "notify_one ", names, cond, rows.as_slice())
@@ -76,23 +84,32 @@ pub(crate) fn write_signal(
     }
 }
 
-/// Returns the word for a row that is started: a party or a flag.
-fn start_word(is_party: bool) -> &'static str
-    ensures { result.now ≡ start_word is_party }
+/// Returns the word for the start of a row: a party, or a flag that gets another value.
+fn start_word(names: &Names, row: usize) -> &'static str
+    ensures { result.now ≡ start_word names.now row }
 {
-    if is_party { "start " } else { "set " }
+    if is_party(names, row) {
+        return "start ";
+    }
+    set_word(value_of(names, row, true))
 }
 
-/// Appends an assertion of a row.
+fn set_word(value: bool) -> &'static str
+    ensures { result.now ≡ set_word value }
+{
+    if value { "set " } else { "clear " }
+}
+
+/// Appends an assertion of a flag, by whether its row is to have ended.
 pub(crate) fn write_assert(
     text: &mut String,
     names: &Names,
     row: usize,
-    value: bool,
+    ended: bool,
 ) -> Result<(), AllocError>
-    ensures { OnOk result (string_bytes text.new ≡ string_bytes text.old ++ assert_text names.now row value) }
+    ensures { OnOk result (string_bytes text.new ≡ string_bytes text.old ++ assert_text names.now row ended) }
 {
-    write_with_row(text, assert_word(value), names, row)
+    write_with_row(text, assert_word(value_of(names, row, ended)), names, row)
 }
 
 fn assert_word(value: bool) -> &'static str

@@ -135,7 +135,7 @@ fn write_signal_awaited(text: &mut String, names: &Names, signal: Signal) -> Res
             text.push_str("join ")?;
             write_row_name(text, names, row)
         }
-        Signal::Assert(row, value) => write_assert(text, names, row, value),
+        Signal::Assert(row, ended) => write_assert(text, names, row, ended),
         _ => Ok(()),
     }
 }

@@ -10,7 +10,7 @@ use Rattle.script_text.proofs.NumberTexts.{line-one_field}
 use Rattle.lock_plan_lines.specs.declared.text_line.Parties.{Parties}
 use Rattle.lock_plan_lines.specs.declared.text_line.Parties.TheVariants.{One, Copies, Any}
 use Rattle.lock_plan_lines.specs.declared.text_line.PlanLine.{PlanLine}
-use Rattle.lock_plan_lines.specs.declared.text_line.PlanLine.TheVariants.{Lock, Party}
+use Rattle.lock_plan_lines.specs.declared.text_line.PlanLine.TheVariants.{Lock, Flag, Party}
 use Rattle.lock_plan_lines.specs.PlanLines.{IsCopies, IsCount, IsPlanLine, copy_fields, kind_word, last_fields, limit_fields, line_word, party_word}
 
 -- each text has a field
@@ -39,12 +39,13 @@ long_kind word last mutex rwlock reentrant Reentrant same = reentrant (sym same)
 
 -- a line with fields after the name is one of a lock with a limit
 pub long_line : (word last : List ℕ) → (word ≡ codes "mutex" → ⊥) → (word ≡ codes "rwlock" → ⊥) → (word ≡ codes "reentrant" → ⊥) → (word ≡ codes "party" → ⊥)
-    → (word ≡ codes "server" → ⊥)
+    → (word ≡ codes "server" → ⊥) → (word ≡ codes "flag" → ⊥)
     → (line : PlanLine) → line_word line ≡ word → last_fields line ≡ fields_of last → ⊥
-long_line word last mutex rwlock reentrant party server (Lock lock) same is = long_kind word last mutex rwlock reentrant lock.kind same
-long_line word last mutex rwlock reentrant party server (Party false copies) same is = party (sym same)
-long_line word last mutex rwlock reentrant party server (Party true copies) same is = server (sym same)
-long_line word last mutex rwlock reentrant party server line same is = has_field last is
+long_line word last mutex rwlock reentrant party server flag (Lock lock) same is = long_kind word last mutex rwlock reentrant lock.kind same
+long_line word last mutex rwlock reentrant party server flag (Party false copies) same is = party (sym same)
+long_line word last mutex rwlock reentrant party server flag (Party true copies) same is = server (sym same)
+long_line word last mutex rwlock reentrant party server flag (Flag value) same is = flag (sym same)
+long_line word last mutex rwlock reentrant party server flag line same is = has_field last is
 
 no_lock_line : (kind : Kind) (serves : Bool) → kind_word kind ≡ party_word serves → ⊥
 no_lock_line Mutex true same = false≢true (ap (λ word. bytes_eq word (codes "server")) same)
@@ -67,12 +68,31 @@ pub mutex_line : (last : List ℕ) → (codes "fair" ∷ [] ≡ fields_of last �
 mutex_line last none (Lock lock) same is = mutex_kind last none lock.kind lock.limit lock.bar lock.fair same is
 mutex_line last none (Party true copies) same is = false≢true (ap (λ word. bytes_eq word (codes "mutex")) same)
 mutex_line last none (Party false copies) same is = false≢true (ap (λ word. bytes_eq word (codes "mutex")) same)
+mutex_line last none (Flag value) same is = false≢true (ap (λ word. bytes_eq word (codes "mutex")) same)
 mutex_line last none line same is = has_field last is
+
+no_kind : (kind : Kind) → kind_word kind ≡ codes "flag" → ⊥
+no_kind Mutex same = false≢true (ap (λ word. bytes_eq word (codes "flag")) same)
+no_kind RwLock same = false≢true (ap (λ word. bytes_eq word (codes "flag")) same)
+no_kind Reentrant same = false≢true (ap (λ word. bytes_eq word (codes "flag")) same)
+
+no_party : (serves : Bool) → codes "flag" ≡ party_word serves → ⊥
+no_party true same = false≢true (ap (λ word. bytes_eq word (codes "server")) same)
+no_party false same = false≢true (ap (λ word. bytes_eq word (codes "party")) same)
+
+-- a line of a flag with a field after the name is one of a flag that is true at first
+pub flag_line : (last : List ℕ) → (last ≡ codes "true" → ⊥)
+    → (line : PlanLine) → line_word line ≡ codes "flag" → last_fields line ≡ fields_of last → ⊥
+flag_line last no_true (Lock lock) same is = no_kind lock.kind same
+flag_line last no_true (Party serves copies) same is = no_party serves (sym same)
+flag_line last no_true (Flag true) same is = no_true (sym (line-one_field last (codes "true") (sym is)))
+flag_line last no_true line same is = has_field last is
 
 -- a line of parties with a field after the name says how many there are
 pub copies_line : (last : List ℕ) → ((parties : Parties) → IsCopies parties → copy_fields parties ≡ fields_of last → ⊥)
     → (serves : Bool) (line : PlanLine) → IsPlanLine line → line_word line ≡ party_word serves → last_fields line ≡ fields_of last → ⊥
 copies_line last none serves (Lock lock) ok same is = no_lock_line lock.kind serves same
+copies_line last none serves (Flag value) ok same is = no_party serves same
 copies_line last none serves (Party any parties) ok same is = none parties ok is
 copies_line last none serves line ok same is = has_field last is
 

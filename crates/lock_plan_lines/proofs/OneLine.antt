@@ -18,19 +18,20 @@ use Rattle.lock_plan_lines.specs.declared.text_line.Parties.TheVariants as parti
 use Rattle.lock_plan_lines.specs.declared.text_line.PlanLine.{PlanLine}
 use Rattle.lock_plan_lines.specs.declared.text_line.NamedWord.{NamedWord}
 use Rattle.lock_plan_lines.specs.declared.text_line.NamedWord.TheVariants as named
-use Rattle.lock_plan_lines.specs.declared.text_line.PlanLine.TheVariants.{Lock, Party, Call, Named}
+use Rattle.lock_plan_lines.specs.declared.text_line.PlanLine.TheVariants.{Lock, Flag, Party, Call, Named}
 use Rattle.lock_plan_lines.specs.declared.text_line.TextLine.{TextLine}
 use Rattle.lock_plan_lines.specs.declared.text_line.TextLine.TheVariants as text
 use Rattle.lock_plan_lines.specs.declared.text_line.WaitLine.{WaitLine}
 use Rattle.lock_plan_lines.specs.declared.text_line.WaitLine.TheVariants as wait
-use Rattle.lock_plan_lines.specs.PlanLines.{IsFlagField, IsNamed, IsOneName, IsTextLine, TextNames, block_word, has_flag, text_fields, IsCopies, IsLineLock, IsPlanLine, IsVerb, manner_fields, copy_fields, kind_word, last_fields, limit_fields, line_word, look_fields, timeout_fields, named_word, one_name, party_word, plan_fields, until_fields}
+use Rattle.lock_plan_lines.specs.PlanLines.{IsFlagField, IsNamed, IsOneName, IsTextLine, TextNames, block_word, has_flag, text_fields, IsCopies, IsLineLock, IsPlanLine, IsVerb, manner_fields, copy_fields, first_fields, kind_word, last_fields, limit_fields, line_word, look_fields, timeout_fields, named_word, one_name, party_word, plan_fields, until_fields}
 
--- a line without the limit of its lock
+-- a line without the limit of its lock, the value of its flag or the count of its parties
 abbrev of_kind : Kind → PlanLine
 of_kind kind = Lock (record { kind = kind; limit = 0; bar = false; fair = false })
 
 abbrev bare : PlanLine → PlanLine
 bare (Lock lock) = of_kind lock.kind
+bare (Flag value) = Flag false
 bare (Party serves copies) = Party serves parties.One
 bare (Call is_rwlock step) = Call is_rwlock step
 bare (Named word) = Named word
@@ -57,7 +58,7 @@ by_word word =
     (cond (bytes_eq word (codes "downgrade_upgradable")) (Some (Call true (Modes (Change Upgradable Shared))))
     (cond (bytes_eq word (codes "announce")) (Some (Call true Announce))
     (cond (bytes_eq word (codes "withdraw")) (Some (Call true Withdraw))
-    (cond (bytes_eq word (codes "flag")) (Some (Named named.Flag))
+    (cond (bytes_eq word (codes "flag")) (Some (Flag false))
     (cond (bytes_eq word (codes "condvar")) (Some (Named named.Condvar))
     (cond (bytes_eq word (codes "set")) (Some (Named named.Set))
     (cond (bytes_eq word (codes "clear")) (Some (Named named.Clear))
@@ -98,8 +99,12 @@ step_by_word is_rwlock step ok = absurd (false≢true ok)
 
 named_by_word : (word : NamedWord) → by_word (named_word word) ≡ Some (Named word)
 unfolding by_word
-named_by_word named.Flag = refl
+named_by_word named.Condvar = refl
 named_by_word word = refl
+
+flag_by_word : by_word (codes "flag") ≡ Some (Flag false)
+unfolding by_word
+flag_by_word = refl
 
 party_by_word : (serves : Bool) → by_word (party_word serves) ≡ Some (Party serves parties.One)
 unfolding by_word
@@ -108,6 +113,7 @@ party_by_word true = refl
 
 line_by_word : (line : PlanLine) → IsPlanLine line → by_word (line_word line) ≡ Some (bare line)
 line_by_word (Lock lock) ok = kind_by_word lock.kind
+line_by_word (Flag value) ok = flag_by_word
 line_by_word (Party serves copies) ok = party_by_word serves
 line_by_word (Call is_rwlock step) ok = step_by_word is_rwlock step ok
 line_by_word (Named word) ok = named_by_word word
@@ -172,10 +178,16 @@ same_copies serves (parties.Copies count) (parties.Copies other) ok good same =
     ap (λ (n : ℕ). Party serves (parties.Copies n)) counts
 same_copies serves copies other ok good same = cc
 
+same_first : (value other : Bool) → first_fields value ≡ first_fields other → value ≡ other
+same_first true true same = refl
+same_first false false same = refl
+same_first value other same = cc
+
 same_lines : (line other : PlanLine) → bare line ≡ bare other → IsPlanLine line → IsPlanLine other → last_fields line ≡ last_fields other → line ≡ other
 same_lines (Lock lock) (Lock other) is ok good same =
     let kinds : lock.kind ≡ other.kind = ap kind_of is in
     same_locks lock.kind other.kind lock.limit other.limit lock.bar lock.fair other.bar other.fair kinds ok good same
+same_lines (Flag value) (Flag other) is ok good same = ap Flag (same_first value other same)
 same_lines (Party serves copies) (Party waits other) is ok good same =
     let servers : serves ≡ waits = ap serves_of is in
     ap (λ (b : Bool). Party b copies) servers ∙ same_copies waits copies other ok good same

@@ -17,11 +17,11 @@ use Rattle.lock_plan_lines.specs.declared.block_line.BlockWord.{BlockWord}
 use Rattle.lock_plan_lines.specs.declared.block_line.BlockWord.TheVariants.{Repeat, Forever, Either, Else, Or, End, Leave, Return}
 use Rattle.lock_plan_lines.specs.declared.name.LineNames.{LineNames}
 use Rattle.lock_plan_lines.specs.declared.text_line.NamedWord.{NamedWord}
-use Rattle.lock_plan_lines.specs.declared.text_line.NamedWord.TheVariants.{Flag, Condvar, Set, Clear, NotifyOne, NotifyAll, Start, Join}
+use Rattle.lock_plan_lines.specs.declared.text_line.NamedWord.TheVariants.{Condvar, Set, Clear, NotifyOne, NotifyAll, Start, Join}
 use Rattle.lock_plan_lines.specs.declared.text_line.Parties.{Parties}
 use Rattle.lock_plan_lines.specs.declared.text_line.Parties.TheVariants.{One, Copies, Any}
 use Rattle.lock_plan_lines.specs.declared.text_line.PlanLine.{PlanLine}
-use Rattle.lock_plan_lines.specs.declared.text_line.PlanLine.TheVariants.{Lock, Party, Call, Named}
+use Rattle.lock_plan_lines.specs.declared.text_line.PlanLine.TheVariants.{Lock, Flag, Party, Call, Named}
 use Rattle.lock_plan_lines.specs.declared.text_line.TextLine.{TextLine}
 use Rattle.lock_plan_lines.specs.declared.text_line.TextLine.TheVariants.{Plan, Try, Word, If, Until, Assert, Wait}
 use Rattle.lock_plan_lines.specs.declared.text_line.WaitLine.{WaitLine}
@@ -47,7 +47,6 @@ party_word true = codes "server"
 
 -- the word of a line with a name alone
 abbrev pub named_word : NamedWord → List ℕ
-named_word Flag = codes "flag"
 named_word Condvar = codes "condvar"
 named_word Set = codes "set"
 named_word Clear = codes "clear"
@@ -59,6 +58,7 @@ named_word Join = codes "join"
 -- the first field of a line
 abbrev pub line_word : PlanLine → List ℕ
 line_word (Lock lock) = kind_word lock.kind
+line_word (Flag value) = codes "flag"
 line_word (Party serves copies) = party_word serves
 line_word (Call is_rwlock step) = step_word is_rwlock step
 line_word (Named word) = named_word word
@@ -75,6 +75,11 @@ limit_fields Mutex limit bar fair = manner_fields false fair
 limit_fields RwLock limit bar fair = decimal limit ∷ manner_fields bar fair
 limit_fields Reentrant limit bar fair = decimal limit ∷ []
 
+-- the field after the name of a flag that is true at first
+abbrev pub first_fields : Bool → List (List ℕ)
+first_fields true = codes "true" ∷ []
+first_fields false = []
+
 -- the fields after the name of a party
 abbrev pub copy_fields : Parties → List (List ℕ)
 copy_fields One = []
@@ -83,6 +88,7 @@ copy_fields Any = codes "*" ∷ []
 
 abbrev pub last_fields : PlanLine → List (List ℕ)
 last_fields (Lock lock) = limit_fields lock.kind lock.limit lock.bar lock.fair
+last_fields (Flag value) = first_fields value
 last_fields (Party serves copies) = copy_fields copies
 last_fields (Call is_rwlock step) = []
 last_fields (Named word) = []
@@ -122,6 +128,7 @@ IsVerb false step = IsTrue (is_of_kind Mutex step)
 -- a line with these values can be written
 abbrev pub IsPlanLine : PlanLine → Type 0
 IsPlanLine (Lock lock) = IsLineLock lock.kind lock.limit lock.bar lock.fair
+IsPlanLine (Flag value) = ⊤
 IsPlanLine (Party serves copies) = IsCopies copies
 IsPlanLine (Call is_rwlock step) = IsVerb is_rwlock step
 IsPlanLine (Named word) = ⊤

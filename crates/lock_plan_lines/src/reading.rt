@@ -1,5 +1,5 @@
 //! Reading a line of a plan.
-ghost use Rattle.std.specs.Prelude.{◌≡◌, ◌∷◌, ℕ, Bool, IsTrue, List, [], IfNone, IfSome};
+ghost use Rattle.std.specs.Prelude.{◌≡◌, ◌∷◌, ℕ, Bool, IsTrue, List, [], codes, IfNone, IfSome};
 ghost use Rattle.script_text.specs.Lines.{fields_of};
 ghost use Rattle.script_text.specs.Parts.{bytes_of};
 ghost use Rattle.lock_plan_lines.specs.PlanLines.{IsPlanLine, IsVerb, Says, TextNames, is_name, is_tried, last_fields, line_word, names_of, party_word, plan_fields};
@@ -115,6 +115,7 @@ fn short_line(word: &str) -> Option<PlanLine>
             bar: false,
             fair: false,
         })),
+        "flag" => Some(PlanLine::Flag(false)),
         "party" => Some(PlanLine::Party(false, Parties::One)),
         "server" => Some(PlanLine::Party(true, Parties::One)),
         _ => match verb(word) {
@@ -122,6 +123,17 @@ fn short_line(word: &str) -> Option<PlanLine>
             None => Some(PlanLine::Named(named_word(word)?)),
         },
     }
+}
+
+/// Reads a line of a flag with these fields after the name.
+fn flag_line(last: &str) -> Option<PlanLine>
+    ensures line { IfSome result (λ line. IsPlanLine line × ((line_word line ≡ codes "flag") × (last_fields line ≡ fields_of last.now))) }
+    ensures bad { IfNone result ((line : PlanLine) → IsPlanLine line → line_word line ≡ codes "flag" → last_fields line ≡ fields_of last.now → ⊥) }
+{
+    if last != "true" {
+        return None;
+    }
+    Some(PlanLine::Flag(true))
 }
 
 /// Reads a line of parties with these fields after the name.
@@ -142,6 +154,7 @@ fn long_line(word: &str, last: &str) -> Option<PlanLine>
         "mutex" => Some(PlanLine::Lock(fair_mutex(last)?)),
         "rwlock" => Some(PlanLine::Lock(rwlock(last)?)),
         "reentrant" => Some(PlanLine::Lock(reentrant(last)?)),
+        "flag" => flag_line(last),
         "party" => party_line(false, last),
         "server" => party_line(true, last),
         _ => None,

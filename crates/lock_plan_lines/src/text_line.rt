@@ -37,6 +37,8 @@ pub enum Parties {
 #[derive(Clone, Copy, PartialEq, Eq, Debug)]
 pub enum PlanLine {
     Lock(PlanLock),
+    /// A flag, and whether it is true at first.
+    Flag(bool),
     /// Parties, and whether they are servers.
     Party(bool, Parties),
     /// A call, and whether its word is one for reader-writer locks.
@@ -48,8 +50,6 @@ pub enum PlanLine {
 /// The word of a line that has only a name after it, and calls no lock.
 #[derive(Clone, Copy, PartialEq, Eq, Debug)]
 pub enum NamedWord {
-    /// Declares a flag.
-    Flag,
     /// Declares a condition variable.
     Condvar,
     Set,
@@ -66,7 +66,6 @@ pub(crate) fn named_word(word: &str) -> Option<NamedWord>
     ensures bad { IfNone result ((found : NamedWord) → named_word found ≡ word.now → ⊥) }
 {
     match word {
-        "flag" => Some(NamedWord::Flag),
         "condvar" => Some(NamedWord::Condvar),
         "set" => Some(NamedWord::Set),
         "clear" => Some(NamedWord::Clear),

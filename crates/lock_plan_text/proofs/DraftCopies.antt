@@ -6,11 +6,11 @@ use Rattle.std.proofs.lemmas.Bool.{ltb-true}
 use Rattle.lock_plan_lines.specs.declared.block_line.BlockLine.{BlockLine}
 use Rattle.lock_plan_lines.specs.declared.text_line.NamedWord.{NamedWord}
 use Rattle.lock_plan_lines.specs.declared.open_block.OpenBlock.{OpenBlock}
-use Rattle.lock_plan_lines.specs.declared.text_line.PlanLine.TheVariants.{Lock, Party, Named}
+use Rattle.lock_plan_lines.specs.declared.text_line.PlanLine.TheVariants.{Lock, Flag, Party, Named}
 use Rattle.lock_plan_lines.specs.declared.text_line.TextLine.{TextLine}
 use Rattle.lock_plan_lines.specs.declared.text_line.TextLine.TheVariants.{Plan}
 use Rattle.lock_plan_lines.specs.PlanLines.{TextNames}
-use Rattle.lock_plan_text.specs.Drafts.{Draft, IsDraftOf, Make, is_further, is_open, no_draft, onto_from, own_lines, party_names, place_of, texts_of, with_line, with_lock, with_mention, with_named, with_own, with_parties, with_party, with_said}
+use Rattle.lock_plan_text.specs.Drafts.{Draft, IsDraftOf, Make, is_further, is_open, no_draft, onto_from, own_lines, party_names, place_of, texts_of, with_flag, with_line, with_lock, with_mention, with_named, with_own, with_parties, with_party, with_said}
 use Rattle.lock_plan_text.proofs.FitLocks.{any_lines}
 use Rattle.lock_plan_text.proofs.Origins.{named_kept, own_lines_kept, parties_kept, passed, said_lines, taken}
 
@@ -93,7 +93,7 @@ copied_named : (draft next : Draft) (number : ℕ) (word : NamedWord) (names : T
     → with_named draft number word names ≡ Some next → HasCopies next
 copied_named draft next number word names copied is =
     let mentioned = copied_mention draft number names.name copied in
-    named_kept HasCopies draft next number word names copied copied mentioned mentioned
+    named_kept HasCopies draft next number word names copied mentioned mentioned
     (λ from ok said. copied_said from next number (Plan (Named word)) names ok said) copied is
 
 -- a draft in the course of a line of parties: those of this line have no lines yet, and are servers alike
@@ -187,6 +187,8 @@ copied_line : (draft next : Draft) (number : ℕ) (line : TextLine) (names : Tex
     → with_line draft number line names ≡ Some next → HasCopies next
 copied_line draft next number (Plan (Lock lock)) names copied is =
     subst HasCopies (taken (is_open draft || is_some (place_of draft.lock_names names.name)) (with_lock draft lock names.name) next is) copied
+copied_line draft next number (Plan (Flag value)) names copied is =
+    subst HasCopies (taken (is_open draft || is_some (place_of draft.flag_names names.name)) (with_flag draft value names.name) next is) copied
 copied_line draft next number (Plan (Party serves copies)) names copied is =
     let start : Draft = record draft { first = length draft.parties } in
     (parties_kept (Begun serves) serves (λ d called begun. begun_more serves d called begun) start next (party_names names.name copies)

@@ -10,12 +10,12 @@ use Rattle.lock_plan.specs.declared.lock.PlanLock.{PlanLock}
 use Rattle.lock_plan.specs.Checks.{fit_machines, fits_kind, fits_machine}
 use Rattle.lock_plan_lines.specs.declared.block_line.BlockLine.{BlockLine}
 use Rattle.lock_plan_lines.specs.declared.text_line.NamedWord.{NamedWord}
-use Rattle.lock_plan_lines.specs.declared.text_line.PlanLine.TheVariants.{Lock, Party, Named}
+use Rattle.lock_plan_lines.specs.declared.text_line.PlanLine.TheVariants.{Lock, Flag, Party, Named}
 use Rattle.lock_plan_lines.specs.declared.text_line.TextLine.{TextLine}
 use Rattle.lock_plan_lines.specs.declared.text_line.TextLine.TheVariants.{Plan}
 use Rattle.lock_plan_lines.specs.PlanLines.{IsLineLock, IsTextLine, TextNames}
 use Rattle.lock_plan_text.specs.Drafted.{TextsFitMachines}
-use Rattle.lock_plan_text.specs.Drafts.{Draft, Make, is_open, no_draft, own_lines, place_of, texts_of, party_names, with_line, with_lock, with_mention, with_named, with_parties, with_said}
+use Rattle.lock_plan_text.specs.Drafts.{Draft, Make, is_open, no_draft, own_lines, place_of, texts_of, party_names, with_flag, with_line, with_lock, with_mention, with_named, with_parties, with_said}
 use Rattle.lock_plan_text.proofs.Origins.{named_kept, own_lines_kept, parties_kept, passed, said_lines, taken}
 
 -- the locks of the draft fit machines
@@ -62,7 +62,7 @@ fit_named : (draft next : Draft) (number : ℕ) (word : NamedWord) (names : Text
     → Fit next
 fit_named draft next number word names fit is =
     let mentioned = fit_mention draft number names.name fit in
-    named_kept Fit draft next number word names fit fit mentioned mentioned
+    named_kept Fit draft next number word names fit mentioned mentioned
     (λ from ok said. fit_said from next number (Plan (Named word)) names ok said) fit is
 
 fit_line : (draft next : Draft) (number : ℕ) (line : TextLine) (names : TextNames) → Fit draft → IsTextLine line
@@ -70,6 +70,8 @@ fit_line : (draft next : Draft) (number : ℕ) (line : TextLine) (names : TextNa
 fit_line draft next number (Plan (Lock lock)) names fit ok is =
     subst Fit (taken (is_open draft || is_some (place_of draft.lock_names names.name)) (with_lock draft lock names.name) next is)
     (fit_lock draft lock names.name fit (kind_fits lock.kind lock.limit lock.bar lock.fair ok))
+fit_line draft next number (Plan (Flag value)) names fit ok is =
+    subst Fit (taken (is_open draft || is_some (place_of draft.flag_names names.name)) (with_flag draft value names.name) next is) fit
 fit_line draft next number (Plan (Party serves copies)) names fit ok is =
     let start : Draft = record draft { first = length draft.parties } in
     parties_kept Fit serves (λ d called kept. kept) start next (party_names names.name copies) fit

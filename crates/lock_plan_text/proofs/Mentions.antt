@@ -8,8 +8,8 @@ use Rattle.std.proofs.Math.ListN.{get_or-append}
 use Rattle.std.proofs.Math.Seq.{get_or-append_seam}
 use Rattle.lock_plan.proofs.EachBelow.{last}
 use Rattle.lock_plan_lines.specs.declared.text_line.NamedWord.{NamedWord}
-use Rattle.lock_plan_lines.specs.declared.text_line.NamedWord.TheVariants.{Flag, Condvar, Start, Join}
-use Rattle.lock_plan_lines.specs.declared.text_line.PlanLine.TheVariants.{Lock, Party, Named}
+use Rattle.lock_plan_lines.specs.declared.text_line.NamedWord.TheVariants.{Condvar, Start, Join}
+use Rattle.lock_plan_lines.specs.declared.text_line.PlanLine.TheVariants.{Lock, Flag, Party, Named}
 use Rattle.lock_plan_lines.specs.declared.text_line.TextLine.{TextLine}
 use Rattle.lock_plan_lines.specs.declared.text_line.TextLine.TheVariants.{Plan}
 use Rattle.lock_plan_lines.specs.PlanLines.{Says, TextNames, one_name}
@@ -172,9 +172,6 @@ taken_same t draft new next same is = subst (Same draft) (taken t new next is) s
 met_word : (text : ℕ → List ℕ) (draft next : Draft) (number : ℕ) (word : NamedWord) (names : TextNames)
     → Met text draft.mentions draft.mention_lines number → Says (text number) (Plan (Named word)) names
     → with_named draft number word names ≡ Some next → Met text next.mentions next.mention_lines (number + 1)
-met_word text draft next number Flag names was says is =
-    met_other text draft next number (Plan (Named Flag)) names was says refl
-    (taken_same (is_open draft || is_some (place_of draft.flag_names names.name)) draft (with_flag draft names.name) next (refl, refl) is)
 met_word text draft next number Condvar names was says is =
     met_other text draft next number (Plan (Named Condvar)) names was says refl
     (taken_same (is_open draft || is_some (place_of draft.cond_names names.name)) draft (with_cond draft names.name) next (refl, refl) is)
@@ -197,6 +194,9 @@ met_line : (text : ℕ → List ℕ) (draft next : Draft) (number : ℕ) (line :
 met_line text draft next number (Plan (Lock lock)) names was says is =
     met_other text draft next number (Plan (Lock lock)) names was says refl
     (taken_same (is_open draft || is_some (place_of draft.lock_names names.name)) draft (with_lock draft lock names.name) next (refl, refl) is)
+met_line text draft next number (Plan (Flag value)) names was says is =
+    met_other text draft next number (Plan (Flag value)) names was says refl
+    (taken_same (is_open draft || is_some (place_of draft.flag_names names.name)) draft (with_flag draft value names.name) next (refl, refl) is)
 met_line text draft next number (Plan (Party serves copies)) names was says is =
     let start : Draft = record draft { first = length draft.parties } in
     met_other text draft next number (Plan (Party serves copies)) names was says refl

@@ -8,9 +8,9 @@ use Rattle.lock_plan.specs.declared.lock.PlanLock.{PlanLock}
 use Rattle.lock_plan.specs.Worlds.{no_lock}
 use Rattle.lock_plan_lines.specs.declared.block_line.BlockLine.{BlockLine}
 use Rattle.lock_plan_lines.specs.declared.text_line.NamedWord.{NamedWord}
-use Rattle.lock_plan_lines.specs.declared.text_line.NamedWord.TheVariants.{Flag, Condvar, Start, Join}
+use Rattle.lock_plan_lines.specs.declared.text_line.NamedWord.TheVariants.{Condvar, Start, Join}
 use Rattle.lock_plan_lines.specs.declared.open_block.OpenBlock.{OpenBlock}
-use Rattle.lock_plan_lines.specs.declared.text_line.PlanLine.TheVariants.{Lock, Party, Named}
+use Rattle.lock_plan_lines.specs.declared.text_line.PlanLine.TheVariants.{Lock, Flag, Party, Named}
 use Rattle.lock_plan_lines.specs.declared.text_line.TextLine.{TextLine}
 use Rattle.lock_plan_lines.specs.declared.text_line.TextLine.TheVariants.{Plan}
 use Rattle.lock_plan_lines.specs.OpenBlocks.{open_after}
@@ -83,22 +83,20 @@ pub said_lines : (draft next : Draft) (number : ℕ) (o : Option (List BlockLine
 said_lines draft next number None is = cc
 said_lines draft next number (Some lines) is = (lines, (refl, is))
 
--- what a flag, a condition variable, a mention, a start and the lines of a party keep, a line of a word and a name keeps
+-- what a condition variable, a mention, a start and the lines of a party keep, a line of a word and a name keeps
 pub named_kept : (P : Draft → Type 0) (draft next : Draft) (number : ℕ) (word : NamedWord) (names : TextNames)
-    → P (with_flag draft names.name) → P (with_cond draft names.name) → P (with_mention draft number names.name)
+    → P (with_cond draft names.name) → P (with_mention draft number names.name)
     → P (with_start (with_mention draft number names.name) number names.name)
     → ((from : Draft) → P from → with_said from number (Plan (Named word)) names ≡ Some next → P next)
     → P draft → with_named draft number word names ≡ Some next → P next
-named_kept P draft next number Flag names flagged conded mentioned started said kept is =
-    subst P (taken (is_open draft || is_some (place_of draft.flag_names names.name)) (with_flag draft names.name) next is) flagged
-named_kept P draft next number Condvar names flagged conded mentioned started said kept is =
+named_kept P draft next number Condvar names conded mentioned started said kept is =
     subst P (taken (is_open draft || is_some (place_of draft.cond_names names.name)) (with_cond draft names.name) next is) conded
-named_kept P draft next number Start names flagged conded mentioned started said kept is =
+named_kept P draft next number Start names conded mentioned started said kept is =
     let after = with_start (with_mention draft number names.name) number names.name in
     said after started (let_in (may_start draft names.name) (with_said after number (Plan (Named Start)) names) next is)
-named_kept P draft next number Join names flagged conded mentioned started said kept is =
+named_kept P draft next number Join names conded mentioned started said kept is =
     said (with_mention draft number names.name) mentioned is
-named_kept P draft next number word names flagged conded mentioned started said kept is = said draft kept is
+named_kept P draft next number word names conded mentioned started said kept is = said draft kept is
 
 -- all lines that another draft of the same names has are what the text says
 record Grown (text : ℕ → List ℕ) (start draft : Draft) : Type 0 where
@@ -166,10 +164,10 @@ made_lock text draft lock name made = record {
 more_names : (names : List (List ℕ)) (name called : List ℕ) (i : ℕ) → place_of names called ≡ Some i → place_of (names ++ name ∷ []) called ≡ Some i
 more_names names name called i e = (position-push (λ other. bytes_eq called other) names name i e).1
 
-made_flag : (text : ℕ → List ℕ) (draft : Draft) (name : List ℕ) → Made text draft → Made text (with_flag draft name)
-made_flag text draft name made = record {
+made_flag : (text : ℕ → List ℕ) (draft : Draft) (value : Bool) (name : List ℕ) → Made text draft → Made text (with_flag draft value name)
+made_flag text draft value name made = record {
   named = made.named;
-  tied = same_tied text draft (with_flag draft name)
+  tied = same_tied text draft (with_flag draft value name)
       (record { locks = λ called i e. (e, refl); flags = more_names draft.flag_names name; conds = λ called i e. e; mentions = λ called i e. e })
       made.tied;
   mentioned = made.mentioned;
@@ -244,9 +242,6 @@ mention_of text number word names is says =
 
 made_named : (text : ℕ → List ℕ) (draft next : Draft) (number : ℕ) (word : NamedWord) (names : TextNames) → Made text draft
     → Says (text number) (Plan (Named word)) names → with_named draft number word names ≡ Some next → Made text next
-made_named text draft next number Flag names made says is =
-    subst (Made text) (taken (is_open draft || is_some (place_of draft.flag_names names.name)) (with_flag draft names.name) next is)
-    (made_flag text draft names.name made)
 made_named text draft next number Condvar names made says is =
     subst (Made text) (taken (is_open draft || is_some (place_of draft.cond_names names.name)) (with_cond draft names.name) next is)
     (made_cond text draft names.name made)
@@ -268,6 +263,9 @@ made_line : (text : ℕ → List ℕ) (draft next : Draft) (number : ℕ) (line 
 made_line text draft next number (Plan (Lock lock)) names made says is =
     subst (Made text) (taken (is_open draft || is_some (place_of draft.lock_names names.name)) (with_lock draft lock names.name) next is)
     (made_lock text draft lock names.name made)
+made_line text draft next number (Plan (Flag value)) names made says is =
+    subst (Made text) (taken (is_open draft || is_some (place_of draft.flag_names names.name)) (with_flag draft value names.name) next is)
+    (made_flag text draft value names.name made)
 made_line text draft next number (Plan (Party serves copies)) names made says is =
     let start : Draft = record draft { first = length draft.parties } in
     made_parties text serves start next (party_names names.name copies) (made_same text draft (length draft.parties) draft.started draft.starters draft.start_lines made)

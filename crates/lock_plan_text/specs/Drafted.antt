@@ -17,6 +17,7 @@ drafted draft = record {
   locks = draft.locks.items;
   lock_names = map string_bytes draft.names.locks;
   flag_names = map string_bytes draft.names.flags;
+  first_values = draft.names.first_values.items;
   cond_names = map string_bytes draft.names.conds;
   parties = map (λ v. v.items) draft.parties.items;
   party_names = map string_bytes draft.names.parties;
@@ -42,6 +43,7 @@ pub record IsMadeOf (draft : Draft) (named : NamedPlan) : Type 0 where
   pub lock_names : map string_bytes named.names.locks ≡ draft.lock_names
   pub party_names : map string_bytes named.names.parties ≡ draft.party_names
   pub flag_names : map string_bytes named.names.flags ≡ draft.flag_names
+  pub first_values : named.names.first_values.items ≡ draft.first_values
   pub cond_names : map string_bytes named.names.conds ≡ draft.cond_names
   pub known : unknown_line draft ≡ None
   pub begun : unbegun_line draft ≡ None

@@ -17,12 +17,12 @@ use Rattle.lock_plan_lines.specs.declared.block_line.BlockLine.{BlockLine}
 use Rattle.lock_plan_lines.specs.declared.block_line.BlockLine.TheVariants as block
 use Rattle.lock_plan_lines.specs.declared.block_line.BlockWord.TheVariants.{Else, End, Leave}
 use Rattle.lock_plan_lines.specs.declared.text_line.NamedWord.{NamedWord}
-use Rattle.lock_plan_lines.specs.declared.text_line.NamedWord.TheVariants.{Flag, Condvar, Set, Clear, NotifyOne, NotifyAll, Start, Join}
+use Rattle.lock_plan_lines.specs.declared.text_line.NamedWord.TheVariants.{Condvar, Set, Clear, NotifyOne, NotifyAll, Start, Join}
 use Rattle.lock_plan_lines.specs.declared.open_block.OpenBlock.{OpenBlock}
 use Rattle.lock_plan_lines.specs.declared.block_line.PlainLine.TheVariants as plain
 use Rattle.lock_plan_lines.specs.declared.text_line.Parties.{Parties}
 use Rattle.lock_plan_lines.specs.declared.text_line.Parties.TheVariants.{One, Copies, Any}
-use Rattle.lock_plan_lines.specs.declared.text_line.PlanLine.TheVariants.{Lock, Party, Call, Named}
+use Rattle.lock_plan_lines.specs.declared.text_line.PlanLine.TheVariants.{Lock, Flag, Party, Call, Named}
 use Rattle.lock_plan_lines.specs.declared.text_line.TextLine.{TextLine}
 use Rattle.lock_plan_lines.specs.declared.text_line.TextLine.TheVariants.{Plan, Try, Word, If, Until, Assert, Wait}
 use Rattle.lock_plan_lines.specs.declared.text_line.WaitLine.{WaitLine}
@@ -36,6 +36,8 @@ pub record Draft : Type 0 where
   pub locks : List PlanLock
   pub lock_names : List (List ℕ)
   pub flag_names : List (List ℕ)
+  -- whether each flag is true at first
+  pub first_values : List Bool
   pub cond_names : List (List ℕ)
   -- the lines of each party
   pub parties : List (List BlockLine)
@@ -62,6 +64,7 @@ no_draft = record {
   locks = [];
   lock_names = [];
   flag_names = [];
+  first_values = [];
   cond_names = [];
   parties = [];
   party_names = [];
@@ -105,8 +108,9 @@ abbrev pub with_lock : Draft → PlanLock → List ℕ → Draft
 with_lock draft lock name =
     record draft { locks = draft.locks ++ lock ∷ []; lock_names = draft.lock_names ++ name ∷ [] }
 
-abbrev pub with_flag : Draft → List ℕ → Draft
-with_flag draft name = record draft { flag_names = draft.flag_names ++ name ∷ [] }
+abbrev pub with_flag : Draft → Bool → List ℕ → Draft
+with_flag draft value name =
+    record draft { flag_names = draft.flag_names ++ name ∷ []; first_values = draft.first_values ++ value ∷ [] }
 
 abbrev pub with_cond : Draft → List ℕ → Draft
 with_cond draft name = record draft { cond_names = draft.cond_names ++ name ∷ [] }
@@ -202,7 +206,6 @@ one_line line = line ∷ []
 
 -- the line of a party that a word and a name say
 abbrev pub named_line : Draft → NamedWord → List ℕ → Option BlockLine
-named_line draft Flag name = None
 named_line draft Condvar name = None
 named_line draft Set name = option_map (λ flag. block.Plain (plain.Set flag)) (place_of draft.flag_names name)
 named_line draft Clear name = option_map (λ flag. block.Plain (plain.Clear flag)) (place_of draft.flag_names name)
@@ -264,6 +267,7 @@ wait_lines draft (wait.UntilOrTimeout value) cond lock flag =
 -- the lines of a party that a line of the text says; none if a name in it has no line
 abbrev pub own_lines : Draft → TextLine → TextNames → Option (List BlockLine)
 own_lines draft (Plan (Lock lock)) names = None
+own_lines draft (Plan (Flag value)) names = None
 own_lines draft (Plan (Party serves copies)) names = None
 own_lines draft (Plan (Call for_rwlock step)) names =
     option_map one_line (option_map block.Call (named_call draft for_rwlock step names.name))
@@ -288,8 +292,6 @@ with_said draft number line names = option_and_then (with_own_lines draft number
 
 -- the draft with one more line of a word and a name
 abbrev pub with_named : Draft → ℕ → NamedWord → TextNames → Option Draft
-with_named draft number Flag names =
-    if is_open draft || is_some (place_of draft.flag_names names.name) then None else Some (with_flag draft names.name)
 with_named draft number Condvar names =
     if is_open draft || is_some (place_of draft.cond_names names.name) then None else Some (with_cond draft names.name)
 with_named draft number Start names =
@@ -304,6 +306,8 @@ with_named draft number word names = with_said draft number (Plan (Named word)) 
 abbrev pub with_line : Draft → ℕ → TextLine → TextNames → Option Draft
 with_line draft number (Plan (Lock lock)) names =
     if is_open draft || is_some (place_of draft.lock_names names.name) then None else Some (with_lock draft lock names.name)
+with_line draft number (Plan (Flag value)) names =
+    if is_open draft || is_some (place_of draft.flag_names names.name) then None else Some (with_flag draft value names.name)
 with_line draft number (Plan (Party serves copies)) names =
     if is_open draft then None
     else with_parties (record draft { first = length draft.parties }) serves (party_names names.name copies)

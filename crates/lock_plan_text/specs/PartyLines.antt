@@ -1,5 +1,5 @@
 -- The lines of a party's program, and the programs of a draft. Rows are the parties, and then the flags.
-use Rattle.std.specs.Prelude.{ℕ, ◌+◌, Bool, List, [], ◌∷◌, ◌++◌, if◌then◌else◌, length, map}
+use Rattle.std.specs.Prelude.{ℕ, ◌+◌, Bool, true, false, not, List, [], ◌∷◌, ◌++◌, if◌then◌else◌, length, map}
 use Rattle.std.specs.Option.{unwrap_or}
 use Rattle.std.proofs.Common.{get_or}
 use Rattle.lock_plan.specs.declared.program.Act.TheVariants as act
@@ -20,18 +20,27 @@ flag_row draft flag = length draft.parties + flag
 abbrev pub party_row : Draft → ℕ → ℕ
 party_row draft mention = unwrap_or (place_of draft.party_names (get_or draft.mentions mention [])) 0
 
+-- a flag idles as long as it has its first value: whether its row has ended where it has this one
+abbrev pub has_ended : Draft → ℕ → Bool → Bool
+has_ended draft flag value = if get_or draft.first_values flag false then not value else value
+
+-- to give a flag another value is to start its row, or to let it idle again
+abbrev pub moved : ℕ → Bool → PlainLine
+moved row true = Set row
+moved row false = Clear row
+
 -- a line with rows in place of the numbers of flags and mentions
 abbrev pub plain_in_rows : Draft → PlainLine → PlainLine
-plain_in_rows draft (Set flag) = Set (flag_row draft flag)
-plain_in_rows draft (Clear flag) = Clear (flag_row draft flag)
-plain_in_rows draft (Assert flag value) = Assert (flag_row draft flag) value
+plain_in_rows draft (Set flag) = moved (flag_row draft flag) (has_ended draft flag true)
+plain_in_rows draft (Clear flag) = moved (flag_row draft flag) (has_ended draft flag false)
+plain_in_rows draft (Assert flag value) = Assert (flag_row draft flag) (has_ended draft flag value)
 plain_in_rows draft (Start mention) = Start (party_row draft mention)
 plain_in_rows draft (Join mention) = Join (party_row draft mention)
 plain_in_rows draft line = line
 
 abbrev pub in_rows : Draft → BlockLine → BlockLine
-in_rows draft (If flag value) = If (flag_row draft flag) value
-in_rows draft (Until flag value) = Until (flag_row draft flag) value
+in_rows draft (If flag value) = If (flag_row draft flag) (has_ended draft flag value)
+in_rows draft (Until flag value) = Until (flag_row draft flag) (has_ended draft flag value)
 in_rows draft (Plain line) = Plain (plain_in_rows draft line)
 in_rows draft line = line
 
@@ -63,7 +72,7 @@ party_numbers draft party = idle_numbers (starts draft party) (numbers_of_party 
 abbrev pub party_program : Draft → ℕ → List ProgramPlace
 party_program draft party = program_of (party_lines draft party)
 
--- a flag idles until it is set
+-- a flag has one place, at which it idles
 abbrev pub flag_program : List ProgramPlace
 flag_program = record { act = act.Signal signal.Idle; next = 1; other = 1 } ∷ []
 

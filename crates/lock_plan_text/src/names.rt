@@ -8,6 +8,8 @@ pub struct Names {
     pub locks: NameSet,
     pub parties: NameSet,
     pub flags: NameSet,
+    /// Whether each flag is true at first.
+    pub first_values: Vec<bool>,
     pub conds: NameSet,
 }
 
@@ -19,12 +21,14 @@ impl Names {
         ensures locks { result.locks ≡ [] }
         ensures parties { result.parties ≡ [] }
         ensures flags { result.flags ≡ [] }
+        ensures first_values { result.first_values.items ≡ [] }
         ensures conds { result.conds ≡ [] }
     {
         Names {
             locks: NameSet::new(alloc),
             parties: NameSet::new(alloc),
             flags: NameSet::new(alloc),
+            first_values: Vec::new(alloc),
             conds: NameSet::new(alloc),
         }
     }

@@ -43,9 +43,7 @@ impl PlanDraft {
     {
         match line {
             TextLine::Plan(PlanLine::Lock(_)) => self.declared(word, NameKind::Lock, names.name),
-            TextLine::Plan(PlanLine::Named(NamedWord::Flag)) => {
-                self.declared(word, NameKind::Flag, names.name)
-            }
+            TextLine::Plan(PlanLine::Flag(_)) => self.declared(word, NameKind::Flag, names.name),
             TextLine::Plan(PlanLine::Named(NamedWord::Condvar)) => {
                 self.declared(word, NameKind::Condvar, names.name)
             }

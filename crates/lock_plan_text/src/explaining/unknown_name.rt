@@ -78,6 +78,6 @@ fn kind_after(word: NamedWord) -> Option<NameKind> {
     match word {
         NamedWord::Set | NamedWord::Clear => Some(NameKind::Flag),
         NamedWord::NotifyOne | NamedWord::NotifyAll => Some(NameKind::Condvar),
-        NamedWord::Flag | NamedWord::Condvar | NamedWord::Start | NamedWord::Join => None,
+        NamedWord::Condvar | NamedWord::Start | NamedWord::Join => None,
     }
 }

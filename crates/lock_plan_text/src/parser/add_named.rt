@@ -5,7 +5,7 @@ use std::alloc::{AllocError, Global};
 
 impl PlanDraft {
     ghost use Rattle.std.specs.Prelude.{◌≡◌, false, Some, None, IfOk, OnOk, if◌then◌else◌};
-    ghost use Rattle.lock_plan_lines.specs.declared.text_line.NamedWord.TheVariants.{Flag, Condvar};
+    ghost use Rattle.lock_plan_lines.specs.declared.text_line.NamedWord.TheVariants.{Condvar};
     ghost use Rattle.lock_plan_lines.specs.PlanLines.{names_of, one_name};
     ghost use Rattle.lock_plan_text.specs.Drafts.{is_started, may_start, with_mention, with_named, with_start};
     ghost use Rattle.lock_plan_text.specs.Drafted.{drafted};
@@ -22,7 +22,6 @@ impl PlanDraft {
             ≡ (if is_added then Some (drafted self.new) else None)) }
     {
         match word {
-            NamedWord::Flag => return self.add_flag(alloc, names.name),
             NamedWord::Condvar => return self.add_cond(alloc, names.name),
             NamedWord::Start => {
                 if !self.may_start(names.name) {
@@ -35,17 +34,6 @@ impl PlanDraft {
             _ => {}
         }
         self.add_said(alloc, number, TextLine::Plan(PlanLine::Named(word)), names)
-    }
-
-    /// Adds a flag, unless its name is there or a block is open.
-    fn add_flag(&mut self, alloc: Global, name: &str) -> Result<bool, AllocError>
-        ensures { IfOk result (λ is_added. with_named (drafted self.old) 0 Flag (one_name name.now)
-            ≡ (if is_added then Some (drafted self.new) else None)) }
-    {
-        if !self.blocks.are_none() {
-            return Ok(false);
-        }
-        self.names.flags.add(alloc, name)
     }
 
     /// Adds a condition variable, unless its name is there or a block is open.

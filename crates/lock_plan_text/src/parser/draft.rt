@@ -77,6 +77,7 @@ impl PlanDraft {
     {
         match line {
             TextLine::Plan(PlanLine::Lock(lock)) => self.add_lock(alloc, lock, names.name),
+            TextLine::Plan(PlanLine::Flag(value)) => self.add_flag(alloc, value, names.name),
             TextLine::Plan(PlanLine::Party(is_server, parties)) => {
                 self.add_parties(alloc, is_server, parties, names.name)
             }
@@ -121,6 +122,22 @@ impl PlanDraft {
             return Ok(false);
         }
         self.locks.push(lock)?;
+        Ok(true)
+    }
+
+    /// Adds a flag with this value at first, unless its name is there or a block is open.
+    fn add_flag(&mut self, alloc: Global, value: bool, name: &str) -> Result<bool, AllocError>
+        ensures { IfOk result (λ is_added. with_line (drafted self.old) 0
+            (text.Plan (line.Flag value)) (one_name name.now)
+            ≡ (if is_added then Some (drafted self.new) else None)) }
+    {
+        if !self.blocks.are_none() {
+            return Ok(false);
+        }
+        if !self.names.flags.add(alloc, name)? {
+            return Ok(false);
+        }
+        self.names.first_values.push(value)?;
         Ok(true)
     }
 

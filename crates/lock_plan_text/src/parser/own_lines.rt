@@ -30,7 +30,7 @@ impl PlanDraft {
             ≡ own_lines (drafted self.now) line (names_of names.entry)) }
     {
         match line {
-            TextLine::Plan(PlanLine::Lock(_) | PlanLine::Party(..)) => Ok(None),
+            TextLine::Plan(PlanLine::Lock(_) | PlanLine::Flag(_) | PlanLine::Party(..)) => Ok(None),
             TextLine::Plan(PlanLine::Call(is_rwlock, step)) => {
                 match self.call(is_rwlock, step, names.name) {
                     Some(call) => one_line(alloc, BlockLine::Call(call)),
@@ -70,7 +70,7 @@ impl PlanDraft {
         let conds = &self.names.conds;
         let mentions = &self.mentions;
         let line = match word {
-            NamedWord::Flag | NamedWord::Condvar => return None,
+            NamedWord::Condvar => return None,
             NamedWord::Set => PlainLine::Set(flags.place_of(name)?),
             NamedWord::Clear => PlainLine::Clear(flags.place_of(name)?),
             NamedWord::NotifyOne => PlainLine::NotifyOne(conds.place_of(name)?),

@@ -8,7 +8,7 @@ impl PlanDraft {
     ghost use Rattle.std.proofs.Common.{get_or};
     ghost use Rattle.lock_plan_text.specs.Drafted.{drafted};
     ghost use Rattle.lock_plan_text.specs.PlanFaults.{unknown_line, unknown_mention};
-    ghost use Rattle.lock_plan_text.specs.PartyLines.{flag_row, in_rows, party_lines, party_numbers, party_row, plain_in_rows, starts};
+    ghost use Rattle.lock_plan_text.specs.PartyLines.{flag_row, has_ended, in_rows, party_lines, party_numbers, party_row, plain_in_rows, starts};
 
     /// Makes the lines of a party's program, or none if there are too many rows to count.
     pub(crate) fn party_lines(
@@ -76,8 +76,12 @@ impl PlanDraft {
         ensures { IfSome result (λ found. found ≡ in_rows (drafted self.now) line) }
     {
         let found = match line {
-            BlockLine::If(flag, value) => BlockLine::If(self.flag_row(flag)?, value),
-            BlockLine::Until(flag, value) => BlockLine::Until(self.flag_row(flag)?, value),
+            BlockLine::If(flag, value) => {
+                BlockLine::If(self.flag_row(flag)?, self.has_ended(flag, value))
+            }
+            BlockLine::Until(flag, value) => {
+                BlockLine::Until(self.flag_row(flag)?, self.has_ended(flag, value))
+            }
             BlockLine::Plain(line) => BlockLine::Plain(self.plain_in_rows(line)?),
             BlockLine::Call(_)
             | BlockLine::Try(_)
@@ -92,9 +96,11 @@ impl PlanDraft {
         ensures { IfSome result (λ found. found ≡ plain_in_rows (drafted self.now) line) }
     {
         let found = match line {
-            PlainLine::Set(flag) => PlainLine::Set(self.flag_row(flag)?),
-            PlainLine::Clear(flag) => PlainLine::Clear(self.flag_row(flag)?),
-            PlainLine::Assert(flag, value) => PlainLine::Assert(self.flag_row(flag)?, value),
+            PlainLine::Set(flag) => moved(self.flag_row(flag)?, self.has_ended(flag, true)),
+            PlainLine::Clear(flag) => moved(self.flag_row(flag)?, self.has_ended(flag, false)),
+            PlainLine::Assert(flag, value) => {
+                PlainLine::Assert(self.flag_row(flag)?, self.has_ended(flag, value))
+            }
             PlainLine::Start(mention) => PlainLine::Start(self.party_row(mention)),
             PlainLine::Join(mention) => PlainLine::Join(self.party_row(mention)),
             PlainLine::Idle
@@ -112,6 +118,18 @@ impl PlanDraft {
         self.parties.len().checked_add(flag)
     }
 
+    /// Returns whether the row of a flag has ended where the flag has this value.
+    fn has_ended(&self, flag: usize, value: bool) -> bool
+        ensures { result ≡ has_ended (drafted self.now) flag value }
+    {
+        let first = self.names.first_values.get(flag).copied();
+        if first.unwrap_or(false) {
+            !value
+        } else {
+            value
+        }
+    }
+
     /// Returns the row of the party that a mention names, or 0 if there is none.
     fn party_row(&self, mention: usize) -> usize
         ensures { result ≡ party_row (drafted self.now) mention }
@@ -124,6 +142,18 @@ impl PlanDraft {
 ghost use Rattle.std.specs.Prelude.{◌≡◌, [], map};
 ghost use Rattle.std.proofs.Common.{get_or};
 ghost use Rattle.lock_plan_text.specs.Names.{name_of};
+ghost use Rattle.lock_plan_text.specs.PartyLines.{moved};
+
+/// Returns the line that starts the row of a flag, or lets it idle again.
+fn moved(row: usize, ends: bool) -> PlainLine
+    ensures { result ≡ moved row ends }
+{
+    if ends {
+        PlainLine::Set(row)
+    } else {
+        PlainLine::Clear(row)
+    }
+}
 
 /// Returns the name with this number, or an empty one if there is none.
 pub(crate) fn name_at(names: &[String], number: usize) -> &str

@@ -16,6 +16,7 @@ returns-in-Ok-clause-plan c = record {
   lock_names = search rules;
   party_names = search rules;
   flag_names = search rules;
+  first_values = search rules;
   cond_names = search rules;
   known = c.requires.known;
   begun = c.requires.begun;
