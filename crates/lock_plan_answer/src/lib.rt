@@ -2,8 +2,9 @@
 //!
 //! [`write_answer`] appends what [`explore`](lock_plan::explore) found, [`write_drawing`] the drawing below it, and
 //! [`draw_picture`] makes the picture in its place. [`write_order`] appends the order of the locks, or what is in its way.
-//! `answer` is made of `always_steps`, `step` and `stop`, with `signal` for what is no call; `lanes` is made of `cell`. All read rows by
-//! `stand`. In the specs, `Answers` is the text of an answer, `Lanes` that of a drawing, and `Orders` that of an order.
+//! `answer` is made of `step` and `stop`, with `signal` for what is no call, or of `always_steps`; `lanes` is made of `cell`.
+//! All read rows by `stand`, but `always_steps`. In the specs, `Answers` is the text of an answer, `Lanes` that of a drawing,
+//! and `Orders` that of an order.
 #![tactic(auto)]
 
 mod always_steps;

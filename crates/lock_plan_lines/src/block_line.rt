@@ -7,7 +7,8 @@ use lock_plan::PlanCall;
 /// A line of a party. A line of the text is one of these, but a wait is several.
 ///
 /// The number of a flag, a condition variable or a mention of a party is its place in the text's list of that kind.
-/// Before a program is made, the number of a flag or a mention becomes that of its row.
+/// Before a program is made, the number of a flag or a mention becomes that of its row. The row of a flag that is true at
+/// first stands for its opposite: `Set` becomes `Clear`, and each value the other one.
 #[derive(Clone, Copy, PartialEq, Eq, Debug)]
 pub enum BlockLine {
     Call(PlanCall),
