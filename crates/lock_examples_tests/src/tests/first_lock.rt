@@ -54,9 +54,9 @@ fn readers_and_a_writer_run_closures(rt: HostRuntime) -> Result<(), Fail> {
     Ok(())
 }
 
-/// What a downgraded guard reads. Then whether a writer and an upgradable reader are admitted beside it, and whether a
-/// writer is once it has ended.
-fn beside_a_downgraded_guard<C: LockCore>(lock: RwLock<RawLock<C>, u64>) -> (u64, [bool; 3]) {
+/// What a downgraded guard reads. Then whether the lock admits a writer next to it, an upgradable reader next to it, and a
+/// writer after its end.
+fn next_to_a_downgraded_guard<C: LockCore>(lock: RwLock<RawLock<C>, u64>) -> (u64, [bool; 3]) {
     let reader = RwLockUpgradableReadGuard::downgrade(lock.upgradable_read());
     let writes = lock.try_write().is_some();
     let upgrades = lock.try_upgradable_read().is_some();
@@ -68,6 +68,6 @@ fn beside_a_downgraded_guard<C: LockCore>(lock: RwLock<RawLock<C>, u64>) -> (u64
 #[test]
 fn a_downgraded_guard_shows_the_value(rt: HostRuntime) -> Result<(), Fail> {
     let lock = WordRwLock::new(rt.alloc(), rt, 7u64)?;
-    assert_eq!(rt; beside_a_downgraded_guard(lock), (7, [false, true, true]));
+    assert_eq!(rt; next_to_a_downgraded_guard(lock), (7, [false, true, true]));
     Ok(())
 }
