@@ -1,3 +1,2 @@
-mod Appended
 mod Past
 mod Rows

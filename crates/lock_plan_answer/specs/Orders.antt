@@ -28,27 +28,22 @@ order_names text first [] = []
 order_names text first (lock ∷ locks) = separator first ++ (lock_name text lock ++ order_names text false locks)
 
 -- the line of a party's place, by the number that each line has
-abbrev pub at_line : (ℕ → ℕ) → PlanText → ℕ → ℕ → List ℕ
-at_line number text party place =
-    codes "line " ++ (decimal (number (number_of (drafted text.draft) party place)) ++ codes ": ")
-
--- the end of a line about a party that holds a lock
-abbrev pub holds_text : PlanText → ℕ → List ℕ
-holds_text text lock = codes " while it holds " ++ (lock_name text lock ++ codes "\n")
-
-abbrev pub waits_text : PlanText → ℕ → ℕ → List ℕ
-waits_text text party lock = party_name text party ++ (codes " waits for " ++ lock_name text lock)
+abbrev pub line_of : (ℕ → ℕ) → PlanText → ℕ → ℕ → ℕ
+line_of number text party place = number (number_of (drafted text.draft) party place)
 
 -- a party waits for a lock while it holds another one
 abbrev pub wait_line : (ℕ → ℕ) → PlanText → HeldWait → List ℕ
 wait_line number text wait =
-    at_line number text wait.party wait.place ++ (waits_text text wait.party wait.wanted ++ holds_text text wait.held)
+    codes "line " ++ (decimal (line_of number text wait.party wait.place)
+    ++ (codes ": " ++ (party_name text wait.party
+    ++ (codes " waits for " ++ (lock_name text wait.wanted
+    ++ (codes " while it holds " ++ (lock_name text wait.held ++ codes "\n")))))))
 
 -- an act of which the order says nothing; a row past the parties is a flag
 abbrev pub uncovered_line : (ℕ → ℕ) → PlanText → ℕ → ℕ → List ℕ
 uncovered_line number text party place =
     if nat_lt party (length text.draft.names.parties)
-    then at_line number text party place ++ codes "an order covers no upgrade, announcement or signal\n"
+    then codes "line " ++ (decimal (line_of number text party place) ++ codes ": an order covers no upgrade, announcement or signal\n")
     else codes "an order covers no flag\n"
 
 abbrev pub obstacle_line : (ℕ → ℕ) → PlanText → Obstacle → List ℕ
@@ -56,7 +51,7 @@ obstacle_line number text (Waits wait) = wait_line number text wait
 obstacle_line number text TooManyWaits = codes "more than 4096 waits: only an order of the locks is looked for\n"
 obstacle_line number text (Uncovered party place) = uncovered_line number text party place
 obstacle_line number text (Ends party lock) =
-    party_name text party ++ (codes " ends" ++ holds_text text lock)
+    party_name text party ++ (codes " ends while it holds " ++ (lock_name text lock ++ codes "\n"))
 obstacle_line number text (Unfit lock) = lock_name text lock ++ codes ": no machine of guards is such a lock\n"
 
 -- what to do where there are any number of parties

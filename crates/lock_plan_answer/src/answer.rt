@@ -1,5 +1,5 @@
 //! Answers as text.
-ghost use Rattle.std.specs.Prelude.{◌≡◌, ◌++◌, OnOk, decimal, string_bytes};
+ghost use Rattle.std.specs.Prelude.{◌≡◌, ◌++◌, OnOk, string_bytes};
 ghost use Rattle.lock_plan.specs.Worlds.{first_world};
 ghost use Rattle.lock_plan.specs.Stops.{programs_of};
 ghost use Rattle.lock_plan_answer.specs.Answers.{none_text, trace_text, answer_text};
@@ -10,7 +10,6 @@ use crate::going::write_going_lines;
 use crate::line_mark::LineMark;
 use crate::step::{last_node, write_steps};
 use crate::stop::{stop_word, write_stop_lines};
-use itoa::Buffer;
 use lock_plan::{Explored, Plan, Step};
 use lock_plan_text::Names;
 use std::alloc::{AllocError, Global};
@@ -41,22 +40,7 @@ pub fn write_answer(
 fn write_none(text: &mut String, visited: usize) -> Result<(), AllocError>
     ensures { OnOk result (string_bytes text.new ≡ string_bytes text.old ++ none_text visited) }
 {
-    write_number(text, "no deadlock, ", visited, " states\n")
-}
-
-/// Appends a number with words before and after it.
-fn write_number(
-    text: &mut String,
-    before: &str,
-    number: usize,
-    after: &str,
-) -> Result<(), AllocError>
-    ensures { OnOk result (string_bytes text.new
-        ≡ string_bytes text.old ++ (before.now ++ (decimal number ++ after.now))) }
-{
-    text.push_str(before)?;
-    text.push_str(Buffer::new().format(number))?;
-    text.push_str(after)
+    writeln!(text, "no deadlock, {visited} states")
 }
 
 /// Appends the answer where a trace leads into a deadlock.
@@ -73,8 +57,7 @@ fn write_trace(
 {
     let node = last_node(alloc, plan, trace)?;
     let list = plan.stopped(alloc, node)?;
-    text.push_str(stop_word(list.as_slice()))?;
-    text.push('\n')?;
+    writeln!(text, "{}", stop_word(list.as_slice()))?;
     write_steps(alloc, text, plan, names, trace, mark)?;
     write_stop_lines(alloc, text, plan, names, node, list.as_slice(), mark)?;
     write_going_lines(alloc, text, plan, names, node, list.as_slice())

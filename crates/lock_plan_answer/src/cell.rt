@@ -5,10 +5,10 @@ ghost use Rattle.lock_plan.specs.Signals.{idles};
 ghost use Rattle.lock_plan.specs.Worlds.{no_stand};
 ghost use Rattle.lock_plan.specs.Stops.{world_of};
 ghost use Rattle.lock_plan_answer.specs.Marks.{locks_held};
-ghost use Rattle.lock_plan_answer.specs.Lanes.{held_text, sleep_text, step_cell, signal_arrow, arrow_text, stop_cell, cell_of};
+ghost use Rattle.lock_plan_answer.specs.Lanes.{held_text, sleep_text, step_cell, arrow_text, stop_cell, cell_of};
 
 use crate::mark::{Marked, Style, add_marks, write_marks};
-use crate::names::{write_name, write_row_name};
+use crate::names::{name_at, row_name};
 use crate::stand::{act_at, hold_at, is_stopped, sleep_of};
 use lock_plan::{Act, Plan, Signal};
 use lock_plan_text::Names;
@@ -37,7 +37,7 @@ pub(crate) fn write_cell(
     ensures { OnOk result (string_bytes text.new ≡ string_bytes text.old ++ cell_of plan.now names.now row party) }
 {
     match row {
-        Row::Parties => write_name(text, names.parties.as_slice(), party),
+        Row::Parties => text.push_str(name_at(names.parties.as_slice(), party)),
         Row::After(node, mover) => write_step_cell(alloc, text, plan, names, node, mover, party),
         Row::Stop(node) => write_stop_cell(alloc, text, plan, names, node, party),
     }
@@ -92,10 +92,7 @@ fn write_sleep(text: &mut String, names: &Names, sleep: Option<usize>) -> Result
 {
     match sleep {
         None => Ok(()),
-        Some(cond) => {
-            text.push_str(" zz ")?;
-            write_name(text, names.conds.as_slice(), cond)
-        }
+        Some(cond) => write!(text, " zz {}", name_at(names.conds.as_slice(), cond)),
     }
 }
 
@@ -139,29 +136,11 @@ fn write_stop_cell(
 fn write_arrow(text: &mut String, names: &Names, act: Option<Act>) -> Result<(), AllocError>
     ensures { OnOk result (string_bytes text.new ≡ string_bytes text.old ++ arrow_text names.now act) }
 {
-    match act {
-        Some(Act::Call(call)) => {
-            text.push_str("-> ")?;
-            write_name(text, names.locks.as_slice(), call.lock)
-        }
-        Some(Act::Signal(signal)) => write_signal_arrow(text, names, signal),
-        _ => text.push('.'),
-    }
-}
-
-/// Appends an arrow to the condition variable or the row that a party with this signal waits for.
-fn write_signal_arrow(text: &mut String, names: &Names, signal: Signal) -> Result<(), AllocError>
-    ensures { OnOk result (string_bytes text.new ≡ string_bytes text.old ++ signal_arrow names.now signal) }
-{
-    match signal {
-        Signal::Sleep(cond) => {
-            text.push_str("-> ")?;
-            write_name(text, names.conds.as_slice(), cond)
-        }
-        Signal::Join(row) | Signal::Assert(row, _) => {
-            text.push_str("-> ")?;
-            write_row_name(text, names, row)
-        }
-        _ => text.push('.'),
-    }
+    let awaited = match act {
+        Some(Act::Call(call)) => name_at(names.locks.as_slice(), call.lock),
+        Some(Act::Signal(Signal::Sleep(cond))) => name_at(names.conds.as_slice(), cond),
+        Some(Act::Signal(Signal::Join(row) | Signal::Assert(row, _))) => row_name(names, row),
+        _ => return text.push('.'),
+    };
+    write!(text, "-> {awaited}")
 }

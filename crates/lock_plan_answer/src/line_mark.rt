@@ -5,7 +5,6 @@ ghost use Rattle.lock_plan_answer.specs.LineMarks.{line_at, mark_by};
 
 use crate::line_numbers::LineNumbers;
 use crate::stand::place_at;
-use itoa::Buffer;
 use lock_plan::Plan;
 use std::alloc::AllocError;
 
@@ -31,8 +30,7 @@ pub(crate) fn write_mark(
         LineMark::Nothing => Ok(()),
         LineMark::Line(places, lines) => {
             let line = line_at(places, row, place_at(plan, node, row));
-            text.push_str(Buffer::new().format(lines.number(line)))?;
-            text.push_str(": ")
+            write!(text, "{}: ", lines.number(line))
         }
     }
 }

@@ -2,7 +2,7 @@
 ghost use Rattle.std.specs.Prelude.{◌≡◌, ◌++◌, OnOk, string_bytes};
 ghost use Rattle.lock_plan_answer.specs.Marks.{mark_if, times, shared_marks, marks_of, mark_text, gap_text, marked_text, marks_text};
 
-use crate::names::write_name;
+use crate::names::name_at;
 use lock_modes::Hold;
 use std::alloc::AllocError;
 
@@ -138,8 +138,8 @@ fn write_mark(
 ) -> Result<(), AllocError>
     ensures { OnOk result (string_bytes text.new ≡ string_bytes text.old ++ marked_text style names.now marked) }
 {
-    write_name(text, names, marked.number)?;
-    text.push_str(mode_text(style, marked.mark))
+    let name = name_at(names, marked.number);
+    write!(text, "{name}{}", mode_text(style, marked.mark))
 }
 
 fn gap(style: Style) -> &'static str

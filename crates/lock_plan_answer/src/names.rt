@@ -7,17 +7,13 @@ ghost use Rattle.lock_plan_answer.specs.RowNames.{is_party, is_true_first, party
 use lock_plan_text::Names;
 use std::alloc::AllocError;
 
-/// Appends the name with this number.
-pub(crate) fn write_name(
-    text: &mut String,
-    names: &[String],
-    number: usize,
-) -> Result<(), AllocError>
-    ensures { OnOk result (string_bytes text.new ≡ string_bytes text.old ++ name_of names.now number) }
+/// Returns the name with this number, or an empty one if there is none.
+pub(crate) fn name_at(names: &[String], number: usize) -> &str
+    ensures { result.now ≡ name_of names.now number }
 {
     match names.get(number) {
-        Some(name) => text.push_str(name.as_str()),
-        None => Ok(()),
+        Some(name) => name.as_str(),
+        None => "",
     }
 }
 
@@ -28,14 +24,14 @@ pub(crate) fn is_party(names: &Names, row: usize) -> bool
     row < names.parties.len()
 }
 
-/// Appends the name of a row.
-pub(crate) fn write_row_name(text: &mut String, names: &Names, row: usize) -> Result<(), AllocError>
-    ensures { OnOk result (string_bytes text.new ≡ string_bytes text.old ++ row_name names.now row) }
+/// Returns the name of a row.
+pub(crate) fn row_name(names: &Names, row: usize) -> &str
+    ensures { result.now ≡ row_name names.now row }
 {
     if is_party(names, row) {
-        return write_name(text, names.parties.as_slice(), row);
+        return name_at(names.parties.as_slice(), row);
     }
-    write_name(text, names.flags.as_slice(), row - names.parties.len())
+    name_at(names.flags.as_slice(), row - names.parties.len())
 }
 
 /// Appends for each of these parties a line that says this of it.
@@ -48,22 +44,9 @@ pub(crate) fn write_party_lines(
     ensures { OnOk result (string_bytes text.new ≡ string_bytes text.old ++ flat_map (party_line names.now says.now) parties.now) }
 {
     for party in parties {
-        write_party_line(text, names, *party, says)?;
+        write!(text, "{}{says}", name_at(names.parties.as_slice(), *party))?;
     }
     Ok(())
-}
-
-/// Appends a line that says this of a party.
-fn write_party_line(
-    text: &mut String,
-    names: &Names,
-    party: usize,
-    says: &str,
-) -> Result<(), AllocError>
-    ensures { OnOk result (string_bytes text.new ≡ string_bytes text.old ++ party_line names.now says.now party) }
-{
-    write_name(text, names.parties.as_slice(), party)?;
-    text.push_str(says)
 }
 
 /// Returns whether a row is a flag that is true at first.

@@ -1,13 +1,11 @@
 //! The answer of a look for an order of the locks.
-ghost use Rattle.std.specs.Prelude.{◌≡◌, ◌++◌, IfErr, OnOk, true, string_bytes};
+ghost use Rattle.std.specs.Prelude.{◌≡◌, ◌++◌, IfErr, IfOk, OnOk, true, string_bytes};
 ghost use Rattle.lock_plan_text.specs.declared.parser.fault.PlanTextFault.TheVariants.{OutOfMemory};
-ghost use Rattle.std.specs.List.{flat_map};
 ghost use Rattle.lock_plan_answer.specs.LineNumbers.{number_by};
-ghost use Rattle.lock_plan_answer.specs.Orders.{advice, at_line, broken_text, holds_text, kept_text, lock_name, obstacle_line, order_names, order_text, party_name, separator, uncovered_line, wait_line, waits_text};
+ghost use Rattle.lock_plan_answer.specs.Orders.{advice, broken_text, kept_text, line_of, lock_name, obstacle_line, order_names, order_text, party_name, separator, uncovered_line, wait_line};
 
 use crate::line_numbers::LineNumbers;
-use crate::names::write_name;
-use itoa::Buffer;
+use crate::names::name_at;
 use lock_plan_order::{HeldWait, LockOrder, Obstacle};
 use lock_plan_text::{PlanText, PlanTextFault};
 use std::alloc::{AllocError, Global};
@@ -64,7 +62,9 @@ fn write_broken(
     ensures fault { IfErr result (λ fault. fault ≡ OutOfMemory) }
 {
     text.push_str("no order\n")?;
-    write_obstacles(alloc, text, plan, lines, obstacles)?;
+    for obstacle in obstacles {
+        write_obstacle(alloc, text, plan, lines, *obstacle)?;
+    }
     text.push_str(advice(plan.is_any_number()))?;
     Ok(())
 }
@@ -85,8 +85,7 @@ fn write_locks(text: &mut String, plan: &PlanText, locks: &[usize]) -> Result<()
 {
     let mut is_first = true;
     for lock in locks {
-        text.push_str(separator(is_first))?;
-        write_lock(text, plan, *lock)?;
+        write!(text, "{}{}", separator(is_first), lock_name(plan, *lock))?;
         is_first = false;
     }
     Ok(())
@@ -98,33 +97,16 @@ fn separator(is_first: bool) -> &'static str
     if is_first { " " } else { ", " }
 }
 
-fn write_lock(text: &mut String, plan: &PlanText, lock: usize) -> Result<(), AllocError>
-    ensures { OnOk result (string_bytes text.new ≡ string_bytes text.old ++ lock_name plan.now lock) }
+fn lock_name(plan: &PlanText, lock: usize) -> &str
+    ensures { result.now ≡ lock_name plan.now lock }
 {
-    write_name(text, plan.names().locks.as_slice(), lock)
+    name_at(plan.names().locks.as_slice(), lock)
 }
 
-fn write_party(text: &mut String, plan: &PlanText, party: usize) -> Result<(), AllocError>
-    ensures { OnOk result (string_bytes text.new ≡ string_bytes text.old ++ party_name plan.now party) }
+fn party_name(plan: &PlanText, party: usize) -> &str
+    ensures { result.now ≡ party_name plan.now party }
 {
-    write_name(text, plan.names().parties.as_slice(), party)
-}
-
-/// Appends the lines of these obstacles.
-fn write_obstacles(
-    alloc: Global,
-    text: &mut String,
-    plan: &PlanText,
-    lines: &LineNumbers,
-    obstacles: &[Obstacle],
-) -> Result<(), PlanTextFault>
-    ensures text { OnOk result (string_bytes text.new ≡ string_bytes text.old ++ flat_map (obstacle_line (number_by lines.now) plan.now) obstacles.now) }
-    ensures fault { IfErr result (λ fault. fault ≡ OutOfMemory) }
-{
-    for obstacle in obstacles {
-        write_obstacle(alloc, text, plan, lines, *obstacle)?;
-    }
-    Ok(())
+    name_at(plan.names().parties.as_slice(), party)
 }
 
 /// Appends the line of an obstacle.
@@ -148,14 +130,13 @@ fn write_obstacle(
             alloc, text, plan, lines, party, place,
         ),
         Obstacle::Ends(party, lock) => {
-            write_party(text, plan, party)?;
-            text.push_str(" ends")?;
-            write_holds(text, plan, lock)?;
+            let (party, lock) = (party_name(plan, party), lock_name(plan, lock));
+            writeln!(text, "{party} ends while it holds {lock}")?;
             Ok(())
         }
         Obstacle::Unfit(lock) => {
-            write_lock(text, plan, lock)?;
-            text.push_str(": no machine of guards is such a lock\n")?;
+            let lock = lock_name(plan, lock);
+            writeln!(text, "{lock}: no machine of guards is such a lock")?;
             Ok(())
         }
     }
@@ -172,32 +153,14 @@ fn write_wait(
     ensures text { OnOk result (string_bytes text.new ≡ string_bytes text.old ++ wait_line (number_by lines.now) plan.now wait) }
     ensures fault { IfErr result (λ fault. fault ≡ OutOfMemory) }
 {
-    write_line(alloc, text, plan, lines, wait.party, wait.place)?;
-    write_waits(text, plan, wait.party, wait.wanted)?;
-    write_holds(text, plan, wait.held)?;
+    let line = line_of(alloc, plan, lines, wait.party, wait.place)?;
+    let party = party_name(plan, wait.party);
+    let (wanted, held) = (lock_name(plan, wait.wanted), lock_name(plan, wait.held));
+    writeln!(
+        text,
+        "line {line}: {party} waits for {wanted} while it holds {held}"
+    )?;
     Ok(())
-}
-
-fn write_waits(
-    text: &mut String,
-    plan: &PlanText,
-    party: usize,
-    lock: usize,
-) -> Result<(), AllocError>
-    ensures { OnOk result (string_bytes text.new ≡ string_bytes text.old ++ waits_text plan.now party lock) }
-{
-    write_party(text, plan, party)?;
-    text.push_str(" waits for ")?;
-    write_lock(text, plan, lock)
-}
-
-/// Appends the end of a line about a party that holds a lock.
-fn write_holds(text: &mut String, plan: &PlanText, lock: usize) -> Result<(), AllocError>
-    ensures { OnOk result (string_bytes text.new ≡ string_bytes text.old ++ holds_text plan.now lock) }
-{
-    text.push_str(" while it holds ")?;
-    write_lock(text, plan, lock)?;
-    text.push_str("\n")
 }
 
 /// Appends that an order says nothing of an act.
@@ -213,29 +176,28 @@ fn write_uncovered(
     ensures fault { IfErr result (λ fault. fault ≡ OutOfMemory) }
 {
     if party < plan.names().parties.len() {
-        write_line(alloc, text, plan, lines, party, place)?;
-        text.push_str("an order covers no upgrade, announcement or signal\n")?;
+        let line = line_of(alloc, plan, lines, party, place)?;
+        writeln!(
+            text,
+            "line {line}: an order covers no upgrade, announcement or signal"
+        )?;
     } else {
         text.push_str("an order covers no flag\n")?;
     }
     Ok(())
 }
 
-/// Appends the number of the line of a party's place.
-fn write_line(
+/// Returns the number of the line of a party's place.
+fn line_of(
     alloc: Global,
-    text: &mut String,
     plan: &PlanText,
     lines: &LineNumbers,
     party: usize,
     place: usize,
-) -> Result<(), PlanTextFault>
-    ensures text { OnOk result (string_bytes text.new ≡ string_bytes text.old ++ at_line (number_by lines.now) plan.now party place) }
+) -> Result<u64, PlanTextFault>
+    ensures line { IfOk result (λ line. line ≡ line_of (number_by lines.now) plan.now party place) }
     ensures fault { IfErr result (λ fault. fault ≡ OutOfMemory) }
 {
     let number = plan.number_of(alloc, party, place)?;
-    text.push_str("line ")?;
-    text.push_str(Buffer::new().format(lines.number(number)))?;
-    text.push_str(": ")?;
-    Ok(())
+    Ok(lines.number(number))
 }

@@ -6,11 +6,10 @@ mod svg;
 mod waits;
 
 use crate::mark::Mark;
-use crate::names::write_name;
+use crate::names::name_at;
 use crate::step::{Made, stepped, write_made};
 use crate::stop::stop_word;
 use bars::write_bars;
-use itoa::Buffer;
 use layout::Layout;
 use lock_plan::{Explored, Plan, Step};
 use lock_plan_text::Names;
@@ -79,11 +78,8 @@ impl Run {
 fn picture_of_none(alloc: Global, visited: usize) -> Result<String, AllocError> {
     let layout = Layout::of_none();
     let mut svg = Svg::new(alloc, layout.width(), layout.height())?;
-    svg.open_text("name", layout.title())?;
-    svg.push_str("no deadlock, ")?;
-    svg.push_str(Buffer::new().format(visited))?;
-    svg.push_str(" states")?;
-    svg.close_text()?;
+    let answer = format!(in alloc; "no deadlock, {visited} states")?;
+    svg.text("name", layout.title(), answer.as_str())?;
     svg.finish()
 }
 
@@ -99,7 +95,7 @@ fn picture_of_run(plan: &Plan, names: &Names, run: &Run) -> Result<String, Alloc
     }
     write_steps(&mut svg, plan, names, run, &layout)?;
     for stopped in &list {
-        write_stopped(&mut svg, plan, names, &layout, stopped)?;
+        write_stopped(run.alloc, &mut svg, plan, names, &layout, stopped)?;
     }
     draw_waits(&mut svg, plan, names, run, &layout, list.as_slice())?;
     svg.finish()
@@ -113,9 +109,8 @@ fn write_column(
     party: usize,
 ) -> Result<(), AllocError> {
     svg.line("life", layout.life(party, 0), layout.end(party))?;
-    svg.open_text("name", layout.head(party))?;
-    write_name(svg.inner(), names.parties.as_slice(), party)?;
-    svg.close_text()
+    let name = name_at(names.parties.as_slice(), party);
+    svg.text("name", layout.head(party), name)
 }
 
 /// A dot for each step, and what it does.
@@ -129,9 +124,9 @@ fn write_steps(
     for (row, made) in run.steps.iter().enumerate() {
         let row = row.saturating_add(1);
         svg.dot(layout.life(made.step.party, row))?;
-        svg.open_text("call", layout.beside(made.step.party, row))?;
-        write_made(run.alloc, svg.inner(), plan, names, *made)?;
-        svg.close_text()?;
+        let mut call = String::new(run.alloc);
+        write_made(run.alloc, &mut call, plan, names, *made)?;
+        svg.text("call", layout.beside(made.step.party, row), call.as_str())?;
     }
     Ok(())
 }

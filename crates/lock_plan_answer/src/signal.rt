@@ -4,7 +4,7 @@ ghost use Rattle.lock_plan.specs.Stops.{world_of};
 ghost use Rattle.lock_plan_answer.specs.RowNames.{row_name, value_of};
 ghost use Rattle.lock_plan_answer.specs.Signals.{sleepers, woken, rows_text, notice_text, set_word, start_word, assert_word, assert_text, signal_text, turn_text, value_text, choice_text};
 
-use crate::names::{is_party, value_of, write_name, write_row_name};
+use crate::names::{is_party, name_at, row_name, value_of};
 use crate::stand::sleep_of;
 use lock_plan::{Block, Plan, Signal};
 use lock_plan_text::Names;
@@ -20,22 +20,14 @@ pub(crate) fn write_choice(
     ensures { OnOk result (string_bytes text.new ≡ string_bytes text.old ++ choice_text names.now other block) }
 {
     match block {
-        Block::Repeat => {
-            text.push_str("repeat")?;
-            text.push_str(turn_text(other))
-        }
-        Block::Either => {
-            text.push_str("either")?;
-            text.push_str(turn_text(other))
-        }
+        Block::Repeat => write!(text, "repeat{}", turn_text(other)),
+        Block::Either => write!(text, "either{}", turn_text(other)),
         Block::If(row) => {
-            text.push_str("if ")?;
-            write_row_name(text, names, row)?;
-            text.push_str(value_text(value_of(names, row, !other)))
+            let value = value_text(value_of(names, row, !other));
+            write!(text, "if {}{value}", row_name(names, row))
         }
         Block::TimedSleep(cond) => {
-            text.push_str("timeout ")?;
-            write_name(text, names.conds.as_slice(), cond)
+            write!(text, "timeout {}", name_at(names.conds.as_slice(), cond))
         }
     }
 }
@@ -67,11 +59,12 @@ pub(crate) fn write_signal(
 {
     match signal {
         Signal::Idle | Signal::Sleep(_) => Ok(()),
-        Signal::Start(row) => write_with_row(text, start_word(names, row), names, row),
+        Signal::Start(row) => write!(text, "{}{}", start_word(names, row), row_name(names, row)),
         Signal::Clear(row) => {
-            write_with_row(text, set_word(value_of(names, row, false)), names, row)
+            let word = set_word(value_of(names, row, false));
+            write!(text, "{word}{}", row_name(names, row))
         }
-        Signal::Join(row) => write_with_row(text, "join ", names, row),
+        Signal::Join(row) => write!(text, "join {}", row_name(names, row)),
         Signal::Assert(row, ended) => write_assert(text, names, row, ended),
         Signal::NotifyOne(cond) => {
             let rows = woken(alloc, way)?;
@@ -109,26 +102,14 @@ pub(crate) fn write_assert(
 ) -> Result<(), AllocError>
     ensures { OnOk result (string_bytes text.new ≡ string_bytes text.old ++ assert_text names.now row ended) }
 {
-    write_with_row(text, assert_word(value_of(names, row, ended)), names, row)
+    let word = assert_word(value_of(names, row, ended));
+    write!(text, "{word}{}", row_name(names, row))
 }
 
 fn assert_word(value: bool) -> &'static str
     ensures { result.now ≡ assert_word value }
 {
     if value { "assert " } else { "assert not " }
-}
-
-/// Appends a word and the name of a row.
-fn write_with_row(
-    text: &mut String,
-    word: &str,
-    names: &Names,
-    row: usize,
-) -> Result<(), AllocError>
-    ensures { OnOk result (string_bytes text.new ≡ string_bytes text.old ++ (word.now ++ row_name names.now row)) }
-{
-    text.push_str(word)?;
-    write_row_name(text, names, row)
 }
 
 /// Returns the row that a notification of one wakes if it goes this way.
@@ -166,9 +147,8 @@ fn write_notice(
     ensures { OnOk result (string_bytes text.new ≡ string_bytes text.old
         ++ (word.now ++ notice_text names.now cond rows.now)) }
 {
-    text.push_str(word)?;
-    write_name(text, names.conds.as_slice(), cond)?;
-    text.push_str(": wakes ")?;
+    let cond = name_at(names.conds.as_slice(), cond);
+    write!(text, "{word}{cond}: wakes ")?;
     write_rows(text, names, rows)
 }
 
@@ -179,10 +159,9 @@ fn write_rows(text: &mut String, names: &Names, rows: &[usize]) -> Result<(), Al
     let Some((first, rest)) = rows.split_first() else {
         return text.push_str("none");
     };
-    write_row_name(text, names, *first)?;
+    text.push_str(row_name(names, *first))?;
     for row in rest {
-        text.push_str(", ")?;
-        write_row_name(text, names, *row)?;
+        write!(text, ", {}", row_name(names, *row))?;
     }
     Ok(())
 }

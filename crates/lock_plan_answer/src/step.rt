@@ -5,10 +5,10 @@ ghost use Rattle.lock_plan.specs.Worlds.{no_lock, first_world, turn_of};
 ghost use Rattle.lock_plan.specs.Stops.{programs_of, world_of};
 ghost use Rattle.lock_plan_answer.specs.LineMarks.{mark_by};
 ghost use Rattle.lock_plan_answer.specs.Signals.{sleep_of};
-ghost use Rattle.lock_plan_answer.specs.Steps.{call_by, call_text, wait_text, made_text, marked_step, steps_text, made_step, stepped, last_world};
+ghost use Rattle.lock_plan_answer.specs.Steps.{call_by, call_text, made_text, marked_step, steps_text, made_step, stepped, last_world};
 
 use crate::line_mark::{LineMark, write_mark};
-use crate::names::write_name;
+use crate::names::name_at;
 use crate::signal::{write_choice, write_signal};
 use crate::stand::{act_at, sleep_of, turn_at};
 use crate::words::step_word;
@@ -98,8 +98,11 @@ fn write_step(
         ++ marked_step (mark_by mark.entry) plan.now.locks.items names.now (world_of plan.now made.before) made.step) }
 {
     write_mark(text, plan, made.before, made.step.party, mark)?;
-    write_name(text, names.parties.as_slice(), made.step.party)?;
-    text.push(' ')?;
+    write!(
+        text,
+        "{} ",
+        name_at(names.parties.as_slice(), made.step.party)
+    )?;
     write_made(alloc, text, plan, names, made)?;
     text.push('\n')
 }
@@ -148,23 +151,20 @@ fn write_made_call(
 {
     let party = made.step.party;
     match sleep_of(plan, made.after, party) {
-        Some(cond) => write_wait(text, names, cond, call.lock),
+        Some(cond) => {
+            let cond = name_at(names.conds.as_slice(), cond);
+            write!(
+                text,
+                "wait {cond} {}",
+                name_at(names.locks.as_slice(), call.lock)
+            )
+        }
         None => {
             let turn = turn_at(alloc, plan, made.before, party)?;
             let step = made_step(turn, call.step);
             write_call(text, plan, names, PlanCall { step, ..call })
         }
     }
-}
-
-/// Appends the release of a mutex by a party that sleeps after it.
-fn write_wait(text: &mut String, names: &Names, cond: usize, lock: usize) -> Result<(), AllocError>
-    ensures { OnOk result (string_bytes text.new ≡ string_bytes text.old ++ wait_text names.now cond lock) }
-{
-    text.push_str("wait ")?;
-    write_name(text, names.conds.as_slice(), cond)?;
-    text.push(' ')?;
-    write_name(text, names.locks.as_slice(), lock)
 }
 
 /// Returns what a call's step does: the call, or an announcement for it.
@@ -187,9 +187,12 @@ pub(crate) fn write_call(
     ensures { OnOk result (string_bytes text.new ≡ string_bytes text.old ++ call_text plan.now.locks.items names.now call) }
 {
     let is_rwlock = lock_at(plan, call.lock).kind.is_rwlock();
-    text.push_str(step_word(is_rwlock, call.step))?;
-    text.push(' ')?;
-    write_name(text, names.locks.as_slice(), call.lock)
+    let word = step_word(is_rwlock, call.step);
+    write!(
+        text,
+        "{word} {}",
+        name_at(names.locks.as_slice(), call.lock)
+    )
 }
 
 /// Returns the lock with this number.

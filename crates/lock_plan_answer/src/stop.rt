@@ -4,14 +4,13 @@ ghost use Rattle.std.specs.List.{flat_map, list_any};
 ghost use Rattle.lock_plan.specs.Stops.{world_of};
 ghost use Rattle.lock_plan_answer.specs.LineMarks.{mark_by};
 ghost use Rattle.lock_plan_answer.specs.Marks.{holders};
-ghost use Rattle.lock_plan_answer.specs.Stops.{adds_reader, awaited_text, call_holders, holders_text, holds_text, is_full, is_refused_call, limit_text, marked_stopped, room_after, says, signal_awaited, stop_word};
+ghost use Rattle.lock_plan_answer.specs.Stops.{adds_reader, awaited_text, call_holders, holders_text, is_full, is_refused_call, marked_stopped, room_after, says, stop_word};
 
 use crate::line_mark::{LineMark, write_mark};
 use crate::mark::{Marked, Style, add_marks, write_marks};
-use crate::names::{write_name, write_row_name};
+use crate::names::{name_at, row_name};
 use crate::signal::write_assert;
 use crate::step::{lock_at, write_call};
-use itoa::Buffer;
 use lock_modes::{LockStep, Mode, ModeStep};
 use lock_plan::{Act, PartyHold, Plan, PlanLock, Signal, Stopped};
 use lock_plan_text::Names;
@@ -83,15 +82,12 @@ fn write_stopped(
         ++ marked_stopped (mark_by mark.entry) plan.now.locks.items names.now (world_of plan.now node) stopped.now) }
 {
     write_mark(text, plan, node, stopped.party, mark)?;
-    write_name(text, names.parties.as_slice(), stopped.party)?;
-    text.push_str(says(stopped.is_refused))?;
+    let party = name_at(names.parties.as_slice(), stopped.party);
+    write!(text, "{party}{}", says(stopped.is_refused))?;
     write_awaited(text, plan, names, stopped.act)?;
     match stopped.behind {
         None => write_holders(alloc, text, plan, names, node, stopped.act)?,
-        Some(first) => {
-            text.push_str(" behind ")?;
-            write_name(text, names.parties.as_slice(), first)?;
-        }
+        Some(first) => write!(text, " behind {}", name_at(names.parties.as_slice(), first))?,
     }
     text.push('\n')
 }
@@ -118,25 +114,12 @@ pub(crate) fn write_awaited(
 {
     match act {
         Act::Call(call) => write_call(text, plan, names, call),
-        Act::Signal(signal) => write_signal_awaited(text, names, signal),
-        Act::Try(_) | Act::Choose(_) => Ok(()),
-    }
-}
-
-fn write_signal_awaited(text: &mut String, names: &Names, signal: Signal) -> Result<(), AllocError>
-    ensures { OnOk result (string_bytes text.new ≡ string_bytes text.old ++ signal_awaited names.now signal) }
-{
-    match signal {
-        Signal::Sleep(cond) => {
-            text.push_str("notify ")?;
-            write_name(text, names.conds.as_slice(), cond)
+        Act::Signal(Signal::Sleep(cond)) => {
+            write!(text, "notify {}", name_at(names.conds.as_slice(), cond))
         }
-        Signal::Join(row) => {
-            text.push_str("join ")?;
-            write_row_name(text, names, row)
-        }
-        Signal::Assert(row, ended) => write_assert(text, names, row, ended),
-        _ => Ok(()),
+        Act::Signal(Signal::Join(row)) => write!(text, "join {}", row_name(names, row)),
+        Act::Signal(Signal::Assert(row, ended)) => write_assert(text, names, row, ended),
+        Act::Signal(_) | Act::Try(_) | Act::Choose(_) => Ok(()),
     }
 }
 
@@ -162,7 +145,7 @@ fn write_holders(
     }
 }
 
-/// Appends who holds the lock for which a step waits.
+/// Appends who holds the lock for which a step waits; if it has all its readers, each hold and the limit.
 fn write_call_holders(
     alloc: Global,
     text: &mut String,
@@ -173,9 +156,19 @@ fn write_call_holders(
 ) -> Result<(), AllocError>
     ensures { OnOk result (string_bytes text.new ≡ string_bytes text.old ++ call_holders names.now lock holds.now step) }
 {
-    text.push_str(": ")?;
     let is_full = is_full(lock.limit, holds, step);
-    write_holds(alloc, text, names, is_full, lock.limit, holds)
+    let marks = holders(alloc, is_full, holds)?;
+    text.push_str(": ")?;
+    write_marks(
+        text,
+        Style::Words,
+        names.parties.as_slice(),
+        marks.as_slice(),
+    )?;
+    if is_full {
+        write!(text, " (limit {})", lock.limit)?;
+    }
+    Ok(())
 }
 
 /// Returns whether a step waits for a lock that has all its readers.
@@ -207,35 +200,6 @@ fn room_after(limit: u64, holds: &[PartyHold]) -> u64
             .saturating_sub(bag.upgradable);
     }
     room
-}
-
-/// Appends who holds a lock; if it has all its readers, each hold and the limit.
-fn write_holds(
-    alloc: Global,
-    text: &mut String,
-    names: &Names,
-    is_full: bool,
-    limit: u64,
-    holds: &[PartyHold],
-) -> Result<(), AllocError>
-    ensures { OnOk result (string_bytes text.new ≡ string_bytes text.old ++ holds_text names.now is_full limit holds.now) }
-{
-    let marks = holders(alloc, is_full, holds)?;
-    let parties = names.parties.as_slice();
-    write_marks(text, Style::Words, parties, marks.as_slice())?;
-    write_limit(text, is_full, limit)
-}
-
-/// Appends the limit of a lock that has all its readers.
-fn write_limit(text: &mut String, is_full: bool, limit: u64) -> Result<(), AllocError>
-    ensures { OnOk result (string_bytes text.new ≡ string_bytes text.old ++ limit_text is_full limit) }
-{
-    if !is_full {
-        return Ok(());
-    }
-    text.push_str(" (limit ")?;
-    text.push_str(Buffer::new().format(limit))?;
-    text.push_str(")")
 }
 
 /// Returns which parties have these holds, and in which modes.

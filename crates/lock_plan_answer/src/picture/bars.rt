@@ -1,6 +1,5 @@
 //! A bar for each hold.
 use crate::mark::Mark;
-use crate::names::write_name;
 use crate::picture::Run;
 use crate::picture::layout::Layout;
 use crate::picture::svg::{Spot, Svg};
@@ -103,7 +102,5 @@ fn write_bar(
         x: spot.x.saturating_add(3),
         y: spot.y.saturating_add(4),
     };
-    svg.open_text_down("lock", start)?;
-    write_name(svg.inner(), names.locks.as_slice(), held.lock)?;
-    svg.close_text()
+    svg.text_down("lock", start, name.as_str())
 }

@@ -1,5 +1,4 @@
 //! Lines of SVG.
-use itoa::Buffer;
 use std::alloc::{AllocError, Global};
 
 /// A place in a picture, in pixels from its upper left corner.
@@ -38,20 +37,18 @@ text { font: 12px monospace; fill: #222 }
 impl Svg {
     /// Begins a picture of this size.
     pub(crate) fn new(alloc: Global, width: usize, height: usize) -> Result<Svg, AllocError> {
-        let mut svg = Svg {
-            text: String::new(alloc),
-        };
-        svg.push_str("<svg xmlns=\"http://www.w3.org/2000/svg\"")?;
-        svg.number("width", width)?;
-        svg.number("height", height)?;
-        svg.push_str(">\n")?;
-        svg.push_str(STYLE)?;
-        Ok(svg)
+        let mut text = String::new(alloc);
+        writeln!(
+            text,
+            "<svg xmlns=\"http://www.w3.org/2000/svg\" width=\"{width}\" height=\"{height}\">"
+        )?;
+        text.push_str(STYLE)?;
+        Ok(Svg { text })
     }
 
     /// Ends the picture.
     pub(crate) fn finish(mut self) -> Result<String, AllocError> {
-        self.push_str("</svg>\n")?;
+        self.text.push_str("</svg>\n")?;
         Ok(self.text)
     }
 
@@ -63,88 +60,51 @@ impl Svg {
         width: usize,
         height: usize,
     ) -> Result<(), AllocError> {
-        self.open("<rect", class)?;
-        self.spot("x", "y", at)?;
-        self.number("width", width)?;
-        self.number("height", height)?;
-        self.push_str("/>\n")
+        let Spot { x, y } = at;
+        writeln!(
+            self.text,
+            "<rect class=\"{class}\" x=\"{x}\" y=\"{y}\" width=\"{width}\" height=\"{height}\"/>"
+        )
     }
 
     /// Draws a line.
     pub(crate) fn line(&mut self, class: &str, from: Spot, to: Spot) -> Result<(), AllocError> {
-        self.open("<line", class)?;
-        self.spot("x1", "y1", from)?;
-        self.spot("x2", "y2", to)?;
-        self.push_str("/>\n")
+        let Spot { x, y } = from;
+        write!(self.text, "<line class=\"{class}\" x1=\"{x}\" y1=\"{y}\"")?;
+        let Spot { x, y } = to;
+        writeln!(self.text, " x2=\"{x}\" y2=\"{y}\"/>")
     }
 
     /// Draws a dot.
     pub(crate) fn dot(&mut self, at: Spot) -> Result<(), AllocError> {
-        self.open("<circle", "dot")?;
-        self.spot("cx", "cy", at)?;
-        self.push_str(" r=\"3.5\"/>\n")
+        let Spot { x, y } = at;
+        writeln!(
+            self.text,
+            "<circle class=\"dot\" cx=\"{x}\" cy=\"{y}\" r=\"3.5\"/>"
+        )
     }
 
-    /// Writes a text that ends on its line.
-    pub(crate) fn text(&mut self, class: &str, at: Spot, text: &str) -> Result<(), AllocError> {
-        self.open_text(class, at)?;
-        self.push_str(text)?;
-        self.close_text()
+    /// Writes words on a line.
+    pub(crate) fn text(&mut self, class: &str, at: Spot, words: &str) -> Result<(), AllocError> {
+        let Spot { x, y } = at;
+        writeln!(
+            self.text,
+            "<text class=\"{class}\" x=\"{x}\" y=\"{y}\">{words}</text>"
+        )
     }
 
-    /// Begins a text. What is pushed until [`close_text`](Svg::close_text) is its words.
-    pub(crate) fn open_text(&mut self, class: &str, at: Spot) -> Result<(), AllocError> {
-        self.open("<text", class)?;
-        self.spot("x", "y", at)?;
-        self.push_str(">")
-    }
-
-    /// Begins a text that runs downward.
-    pub(crate) fn open_text_down(&mut self, class: &str, at: Spot) -> Result<(), AllocError> {
-        self.open("<text", class)?;
-        self.push_str(" transform=\"translate(")?;
-        self.push_number(at.x)?;
-        self.push_str(" ")?;
-        self.push_number(at.y)?;
-        self.push_str(") rotate(90)\">")
-    }
-
-    /// Ends a text.
-    pub(crate) fn close_text(&mut self) -> Result<(), AllocError> {
-        self.push_str("</text>\n")
-    }
-
-    /// Appends words.
-    pub(crate) fn push_str(&mut self, words: &str) -> Result<(), AllocError> {
-        self.text.push_str(words)
-    }
-
-    /// What is written so far.
-    pub(crate) fn inner(&mut self) -> &mut String {
-        &mut self.text
-    }
-
-    fn open(&mut self, element: &str, class: &str) -> Result<(), AllocError> {
-        self.push_str(element)?;
-        self.push_str(" class=\"")?;
-        self.push_str(class)?;
-        self.push_str("\"")
-    }
-
-    fn spot(&mut self, x: &str, y: &str, at: Spot) -> Result<(), AllocError> {
-        self.number(x, at.x)?;
-        self.number(y, at.y)
-    }
-
-    fn number(&mut self, name: &str, number: usize) -> Result<(), AllocError> {
-        self.push_str(" ")?;
-        self.push_str(name)?;
-        self.push_str("=\"")?;
-        self.push_number(number)?;
-        self.push_str("\"")
-    }
-
-    fn push_number(&mut self, number: usize) -> Result<(), AllocError> {
-        self.push_str(Buffer::new().format(number))
+    /// Writes words that run downward.
+    pub(crate) fn text_down(
+        &mut self,
+        class: &str,
+        at: Spot,
+        words: &str,
+    ) -> Result<(), AllocError> {
+        let Spot { x, y } = at;
+        write!(
+            self.text,
+            "<text class=\"{class}\" transform=\"translate({x} {y}) rotate(90)\">"
+        )?;
+        writeln!(self.text, "{words}</text>")
     }
 }

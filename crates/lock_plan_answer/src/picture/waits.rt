@@ -1,5 +1,5 @@
 //! What stopped parties wait for, and an arrow from each to the parties that it waits for.
-use crate::names::write_name;
+use crate::names::name_at;
 use crate::picture::Run;
 use crate::picture::layout::Layout;
 use crate::picture::svg::{Spot, Svg};
@@ -10,6 +10,7 @@ use std::alloc::{AllocError, Global};
 
 /// Writes what a stopped party waits for below its line.
 pub(crate) fn write_stopped(
+    alloc: Global,
     svg: &mut Svg,
     plan: &Plan,
     names: &Names,
@@ -30,9 +31,9 @@ pub(crate) fn write_stopped(
         y: spot.y.saturating_add(16),
         ..spot
     };
-    svg.open_text("call", below)?;
-    write_reason(svg.inner(), plan, names, stopped)?;
-    svg.close_text()
+    let mut reason = String::new(alloc);
+    write_reason(&mut reason, plan, names, stopped)?;
+    svg.text("call", below, reason.as_str())
 }
 
 /// Appends what a stopped party waits for, and behind whom.
@@ -44,8 +45,7 @@ pub(crate) fn write_reason(
 ) -> Result<(), AllocError> {
     write_awaited(text, plan, names, stopped.act)?;
     if let Some(first) = stopped.behind {
-        text.push_str(" behind ")?;
-        write_name(text, names.parties.as_slice(), first)?;
+        write!(text, " behind {}", name_at(names.parties.as_slice(), first))?;
     }
     Ok(())
 }

@@ -3,7 +3,7 @@ use Rattle.std.proofs.Common.{◌≡◌, ◌++◌, drop, string_bytes}
 use Rattle.std.specs.List.{flat_map}
 use Rattle.lock_plan_answer.specs.LineNumbers.{number_by}
 use Rattle.lock_plan_answer.specs.Orders.{obstacle_line}
-use Rattle.lock_plan_answer.proofs.order.write_obstacles.Given as goal
+use Rattle.lock_plan_answer.proofs.order.write_broken.Given as goal
 
 abbrev pub invariant-loop-obstacle : goal.invariant-loop-obstacle
 invariant-loop-obstacle l =
