@@ -4,22 +4,17 @@ ghost use Rattle.lock_plan.specs.Stops.{programs_of};
 ghost use Rattle.lock_plan_answer.specs.AlwaysSteps.{always_stepping, always_steps_lines};
 
 use crate::names::write_party_lines;
+use crate::source::Source;
 use lock_plan::Plan;
-use lock_plan_text::Names;
 use std::alloc::{AllocError, Global};
 
 /// Appends a line for each row that never waits.
-pub(crate) fn write_always_steps(
-    alloc: Global,
-    text: &mut String,
-    plan: &Plan,
-    names: &Names,
-) -> Result<(), AllocError>
+pub(crate) fn write_always_steps(text: &mut String, source: &Source) -> Result<(), AllocError>
     ensures { OnOk result (string_bytes text.new ≡ string_bytes text.old
-        ++ always_steps_lines plan.now.locks.items (programs_of plan.now) names.now) }
+        ++ always_steps_lines source.now.plan.now.locks.items (programs_of source.now.plan.now) source.now.names.now) }
 {
-    let rows = always_stepping(alloc, plan)?;
-    write_party_lines(text, names, rows.as_slice(), " always has a step\n")
+    let rows = always_stepping(source.alloc, source.plan)?;
+    write_party_lines(text, source.names, rows.as_slice(), " always has a step\n")
 }
 
 /// Returns the rows that never wait, in order.

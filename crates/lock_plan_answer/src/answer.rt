@@ -8,6 +8,7 @@ ghost use Rattle.lock_plan_answer.specs.LineMarks.{mark_by};
 use crate::always_steps::write_always_steps;
 use crate::going::write_going_lines;
 use crate::line_mark::LineMark;
+use crate::source::Source;
 use crate::step::{last_node, write_steps};
 use crate::stop::{stop_word, write_stop_lines};
 use lock_plan::{Explored, Plan, Step};
@@ -27,12 +28,13 @@ pub fn write_answer(
     ensures { OnOk result (string_bytes text.new ≡ string_bytes text.old
         ++ answer_text (mark_by mark.entry) plan.now.locks.items (programs_of plan.now) names.now explored.now.trace explored.now.visited) }
 {
+    let source = Source { alloc, plan, names };
     match &explored.trace {
         None => {
             write_none(text, explored.visited)?;
-            write_always_steps(alloc, text, plan, names)
+            write_always_steps(text, &source)
         }
-        Some(trace) => write_trace(alloc, text, plan, names, trace.as_slice(), mark),
+        Some(trace) => write_trace(text, &source, trace.as_slice(), mark),
     }
 }
 
@@ -45,20 +47,18 @@ fn write_none(text: &mut String, visited: usize) -> Result<(), AllocError>
 
 /// Appends the answer where a trace leads into a deadlock.
 fn write_trace(
-    alloc: Global,
     text: &mut String,
-    plan: &Plan,
-    names: &Names,
+    source: &Source,
     trace: &[Step],
     mark: LineMark,
 ) -> Result<(), AllocError>
     ensures { OnOk result (string_bytes text.new ≡ string_bytes text.old
-        ++ trace_text (mark_by mark.entry) plan.now.locks.items names.now (first_world plan.now.locks.items (programs_of plan.now)) trace.now) }
+        ++ trace_text (mark_by mark.entry) source.now.plan.now.locks.items source.now.names.now (first_world source.now.plan.now.locks.items (programs_of source.now.plan.now)) trace.now) }
 {
-    let node = last_node(alloc, plan, trace)?;
-    let list = plan.stopped(alloc, node)?;
+    let node = last_node(source.alloc, source.plan, trace)?;
+    let list = source.plan.stopped(source.alloc, node)?;
     writeln!(text, "{}", stop_word(list.as_slice()))?;
-    write_steps(alloc, text, plan, names, trace, mark)?;
-    write_stop_lines(alloc, text, plan, names, node, list.as_slice(), mark)?;
-    write_going_lines(alloc, text, plan, names, node, list.as_slice())
+    write_steps(text, source, trace, mark)?;
+    write_stop_lines(text, source, node, list.as_slice(), mark)?;
+    write_going_lines(text, source, node, list.as_slice())
 }

@@ -9,10 +9,11 @@ ghost use Rattle.lock_plan_answer.specs.Lanes.{held_text, sleep_text, step_cell,
 
 use crate::mark::{Marked, Style, add_marks, write_marks};
 use crate::names::{name_at, row_name};
+use crate::source::Source;
 use crate::stand::{act_at, hold_at, is_stopped, sleep_of};
-use lock_plan::{Act, Plan, Signal};
+use lock_plan::{Act, Signal};
 use lock_plan_text::Names;
-use std::alloc::{AllocError, Global};
+use std::alloc::AllocError;
 
 /// A row of a drawing.
 #[derive(Clone, Copy)]
@@ -27,40 +28,36 @@ pub(crate) enum Row {
 
 /// Appends the cell of a party.
 pub(crate) fn write_cell(
-    alloc: Global,
     text: &mut String,
-    plan: &Plan,
-    names: &Names,
+    source: &Source,
     row: Row,
     party: usize,
 ) -> Result<(), AllocError>
-    ensures { OnOk result (string_bytes text.new ≡ string_bytes text.old ++ cell_of plan.now names.now row party) }
+    ensures { OnOk result (string_bytes text.new ≡ string_bytes text.old ++ cell_of source.now.plan.now source.now.names.now row party) }
 {
     match row {
-        Row::Parties => text.push_str(name_at(names.parties.as_slice(), party)),
-        Row::After(node, mover) => write_step_cell(alloc, text, plan, names, node, mover, party),
-        Row::Stop(node) => write_stop_cell(alloc, text, plan, names, node, party),
+        Row::Parties => text.push_str(name_at(source.names.parties.as_slice(), party)),
+        Row::After(node, mover) => write_step_cell(text, source, node, mover, party),
+        Row::Stop(node) => write_stop_cell(text, source, node, party),
     }
 }
 
 /// Appends a cell after a step: whether the party made it, what the party holds, and whether it sleeps.
 fn write_step_cell(
-    alloc: Global,
     text: &mut String,
-    plan: &Plan,
-    names: &Names,
+    source: &Source,
     node: usize,
     mover: usize,
     party: usize,
 ) -> Result<(), AllocError>
     ensures { OnOk result (string_bytes text.new ≡ string_bytes text.old
-        ++ step_cell plan.now.locks.items names.now (world_of plan.now node) mover party) }
+        ++ step_cell source.now.plan.now.locks.items source.now.names.now (world_of source.now.plan.now node) mover party) }
 {
-    let marks = locks_held(alloc, plan, node, party)?;
+    let marks = locks_held(source, node, party)?;
     text.push_str(if party == mover { "* " } else { "" })?;
-    let is_idle = idles(act_at(plan, node, party));
-    write_held(text, names, is_idle, marks.as_slice())?;
-    write_sleep(text, names, sleep_of(plan, node, party))
+    let is_idle = idles(act_at(source.plan, node, party));
+    write_held(text, source.names, is_idle, marks.as_slice())?;
+    write_sleep(text, source.names, sleep_of(source.plan, node, party))
 }
 
 /// Returns whether a party with this act idles.
@@ -97,36 +94,34 @@ fn write_sleep(text: &mut String, names: &Names, sleep: Option<usize>) -> Result
 }
 
 /// Returns which locks a party holds at a node, and in which modes.
-fn locks_held(
-    alloc: Global,
-    plan: &Plan,
-    node: usize,
-    party: usize,
-) -> Result<Vec<Marked>, AllocError>
+fn locks_held(source: &Source, node: usize, party: usize) -> Result<Vec<Marked>, AllocError>
     ensures { IfOk result (λ marks. marks.items
-        ≡ locks_held (get_or (world_of plan.now node) party no_stand).holds (length plan.now.locks.items)) }
+        ≡ locks_held (get_or (world_of source.now.plan.now node) party no_stand).holds (length source.now.plan.now.locks.items)) }
 {
-    let mut marks = Vec::new(alloc);
-    for lock in 0..plan.locks().len() {
-        add_marks(&mut marks, false, lock, hold_at(plan, node, party, lock))?;
+    let mut marks = Vec::new(source.alloc);
+    for lock in 0..source.plan.locks().len() {
+        add_marks(
+            &mut marks,
+            false,
+            lock,
+            hold_at(source.plan, node, party, lock),
+        )?;
     }
     Ok(marks)
 }
 
 /// Appends a cell of the last row: an arrow to what the party waits for, or a dot.
 fn write_stop_cell(
-    alloc: Global,
     text: &mut String,
-    plan: &Plan,
-    names: &Names,
+    source: &Source,
     node: usize,
     party: usize,
 ) -> Result<(), AllocError>
     ensures { OnOk result (string_bytes text.new ≡ string_bytes text.old
-        ++ stop_cell plan.now.locks.items names.now (world_of plan.now node) party) }
+        ++ stop_cell source.now.plan.now.locks.items source.now.names.now (world_of source.now.plan.now node) party) }
 {
-    if is_stopped(alloc, plan, node, party)? {
-        write_arrow(text, names, act_at(plan, node, party))
+    if is_stopped(source.alloc, source.plan, node, party)? {
+        write_arrow(text, source.names, act_at(source.plan, node, party))
     } else {
         text.push('.')
     }

@@ -3,10 +3,10 @@ ghost use Rattle.std.specs.Prelude.{◌≡◌, ◌++◌, length, map, replicate,
 ghost use Rattle.std.proofs.Common.{get_or};
 ghost use Rattle.lock_plan.specs.Worlds.{first_world};
 ghost use Rattle.lock_plan.specs.Stops.{programs_of};
-ghost use Rattle.lock_plan_text.specs.declared.names.Names.{Names};
-ghost use Rattle.lock_plan_answer.specs.Lanes.{cell_of, drawing_text, lanes_text, padded, row_text, rows_of, rows_text, width_over, widths_of};
+ghost use Rattle.lock_plan_answer.specs.Lanes.{cell_of, drawing_text, padded, row_text, rows_of, rows_text, width_over, widths_of};
 
 use crate::cell::{Row, write_cell};
+use crate::source::Source;
 use crate::step::stepped;
 use lock_plan::{Explored, Plan, Step};
 use lock_plan_text::Names;
@@ -26,42 +26,26 @@ pub fn write_drawing(
     ensures { OnOk result (string_bytes text.new ≡ string_bytes text.old
         ++ drawing_text plan.now.locks.items (programs_of plan.now) names.now explored.now.trace) }
 {
-    match &explored.trace {
-        None => Ok(()),
-        Some(trace) => {
-            text.push('\n')?;
-            write_lanes(alloc, text, plan, names, trace.as_slice())?;
-            Ok(())
-        }
-    }
-}
-
-/// Appends the drawing of a trace.
-fn write_lanes(
-    alloc: Global,
-    text: &mut String,
-    plan: &Plan,
-    names: &Names,
-    trace: &[Step],
-) -> Result<(), AllocError>
-    ensures { OnOk result (string_bytes text.new ≡ string_bytes text.old
-        ++ lanes_text plan.now.locks.items names.now
-        (first_world plan.now.locks.items (programs_of plan.now)) trace.now) }
-{
-    let rows = rows_of(alloc, plan, trace)?;
-    write_rows(alloc, text, plan, names, rows.as_slice())
+    let Some(trace) = &explored.trace else {
+        return Ok(());
+    };
+    let source = Source { alloc, plan, names };
+    let rows = rows_of(&source, trace.as_slice())?;
+    text.push('\n')?;
+    write_rows(text, &source, rows.as_slice())
 }
 
 /// Returns the rows of the drawing of a trace.
-fn rows_of(alloc: Global, plan: &Plan, trace: &[Step]) -> Result<Vec<Row>, AllocError>
-    ensures { IfOk result (λ rows. (names : Names) → map (cell_of plan.now names) rows.items ≡ rows_of plan.now.locks.items names
-        (first_world plan.now.locks.items (programs_of plan.now)) trace.now) }
+fn rows_of(source: &Source, trace: &[Step]) -> Result<Vec<Row>, AllocError>
+    ensures { IfOk result (λ rows. map (cell_of source.now.plan.now source.now.names.now) rows.items
+        ≡ rows_of source.now.plan.now.locks.items source.now.names.now
+        (first_world source.now.plan.now.locks.items (programs_of source.now.plan.now)) trace.now) }
 {
-    let mut rows = Vec::new(alloc);
+    let mut rows = Vec::new(source.alloc);
     rows.push(Row::Parties)?;
-    let mut node = plan.start();
+    let mut node = source.plan.start();
     for step in trace {
-        node = stepped(alloc, plan, node, *step)?;
+        node = stepped(source.alloc, source.plan, node, *step)?;
         rows.push(Row::After(node, step.party))?;
     }
     rows.push(Row::Stop(node))?;
@@ -69,54 +53,37 @@ fn rows_of(alloc: Global, plan: &Plan, trace: &[Step]) -> Result<Vec<Row>, Alloc
 }
 
 /// Appends rows, in columns as wide as their widest cells.
-fn write_rows(
-    alloc: Global,
-    text: &mut String,
-    plan: &Plan,
-    names: &Names,
-    rows: &[Row],
-) -> Result<(), AllocError>
+fn write_rows(text: &mut String, source: &Source, rows: &[Row]) -> Result<(), AllocError>
     ensures { OnOk result (string_bytes text.new ≡ string_bytes text.old
-        ++ rows_text (map (cell_of plan.now names.now) rows.now) (length names.now.parties)) }
+        ++ rows_text (map (cell_of source.now.plan.now source.now.names.now) rows.now) (length source.now.names.now.parties)) }
 {
-    let widths = widths_of(alloc, plan, names, rows)?;
+    let widths = widths_of(source, rows)?;
     for row in rows {
-        write_row(alloc, text, plan, names, widths.as_slice(), *row)?;
+        write_row(text, source, widths.as_slice(), *row)?;
     }
     Ok(())
 }
 
 /// Returns the widths of the columns.
-fn widths_of(
-    alloc: Global,
-    plan: &Plan,
-    names: &Names,
-    rows: &[Row],
-) -> Result<Vec<usize>, AllocError>
+fn widths_of(source: &Source, rows: &[Row]) -> Result<Vec<usize>, AllocError>
     ensures { IfOk result (λ widths. widths.items
-        ≡ widths_of (map (cell_of plan.now names.now) rows.now) (length names.now.parties)) }
+        ≡ widths_of (map (cell_of source.now.plan.now source.now.names.now) rows.now) (length source.now.names.now.parties)) }
 {
-    let mut widths = Vec::new(alloc);
-    for party in 0..names.parties.len() {
-        widths.push(width_of(alloc, plan, names, rows, party)?)?;
+    let mut widths = Vec::new(source.alloc);
+    for party in 0..source.names.parties.len() {
+        widths.push(width_of(source, rows, party)?)?;
     }
     Ok(widths)
 }
 
 /// Returns the width of the column of a party.
-fn width_of(
-    alloc: Global,
-    plan: &Plan,
-    names: &Names,
-    rows: &[Row],
-    party: usize,
-) -> Result<usize, AllocError>
-    ensures { IfOk result (λ width. width ≡ width_over 19 (map (cell_of plan.now names.now) rows.now) party) }
+fn width_of(source: &Source, rows: &[Row], party: usize) -> Result<usize, AllocError>
+    ensures { IfOk result (λ width. width ≡ width_over 19 (map (cell_of source.now.plan.now source.now.names.now) rows.now) party) }
 {
     let mut width = NARROWEST;
     for row in rows {
-        let mut cell = String::new(alloc);
-        write_cell(alloc, &mut cell, plan, names, *row, party)?;
+        let mut cell = String::new(source.alloc);
+        write_cell(&mut cell, source, *row, party)?;
         width = width.max(cell.len());
     }
     Ok(width)
@@ -124,24 +91,22 @@ fn width_of(
 
 /// Appends a row, in columns of these widths.
 fn write_row(
-    alloc: Global,
     text: &mut String,
-    plan: &Plan,
-    names: &Names,
+    source: &Source,
     widths: &[usize],
     row: Row,
 ) -> Result<(), AllocError>
     ensures { OnOk result (string_bytes text.new ≡ string_bytes text.old
-        ++ row_text widths.now (length names.now.parties) (cell_of plan.now names.now row)) }
+        ++ row_text widths.now (length source.now.names.now.parties) (cell_of source.now.plan.now source.now.names.now row)) }
 {
-    let Some(last) = names.parties.len().checked_sub(1) else {
+    let Some(last) = source.names.parties.len().checked_sub(1) else {
         return text.push('\n');
     };
     for party in 0..last {
         let width = width_at(widths, party);
-        write_padded(alloc, text, plan, names, width, row, party)?;
+        write_padded(text, source, width, row, party)?;
     }
-    write_cell(alloc, text, plan, names, row, last)?;
+    write_cell(text, source, row, last)?;
     text.push('\n')?;
     Ok(())
 }
@@ -155,18 +120,16 @@ fn width_at(widths: &[usize], party: usize) -> usize
 
 /// Appends the cell of a party, spaces up to the width of its column, and a space.
 fn write_padded(
-    alloc: Global,
     text: &mut String,
-    plan: &Plan,
-    names: &Names,
+    source: &Source,
     width: usize,
     row: Row,
     party: usize,
 ) -> Result<(), AllocError>
-    ensures { OnOk result (string_bytes text.new ≡ string_bytes text.old ++ padded width (cell_of plan.now names.now row party)) }
+    ensures { OnOk result (string_bytes text.new ≡ string_bytes text.old ++ padded width (cell_of source.now.plan.now source.now.names.now row party)) }
 {
     let start = text.len();
-    write_cell(alloc, text, plan, names, row, party)?;
+    write_cell(text, source, row, party)?;
     let spaces = width.saturating_sub(text.len() - start);
     text.push(' ')?;
     write_spaces(text, spaces)

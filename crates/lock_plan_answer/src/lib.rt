@@ -19,6 +19,7 @@ mod names;
 mod order;
 mod picture;
 mod signal;
+mod source;
 mod stand;
 mod step;
 mod stop;

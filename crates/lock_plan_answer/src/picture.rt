@@ -7,6 +7,7 @@ mod waits;
 
 use crate::mark::Mark;
 use crate::names::name_at;
+use crate::source::Source;
 use crate::step::{Made, stepped, write_made};
 use crate::stop::stop_word;
 use bars::write_bars;
@@ -32,37 +33,35 @@ pub fn draw_picture(
 ) -> Result<String, AllocError> {
     match &explored.trace {
         None => picture_of_none(alloc, explored.visited),
-        Some(trace) => picture_of_run(plan, names, &Run::new(alloc, plan, trace.as_slice())?),
+        Some(trace) => {
+            let source = Source { alloc, plan, names };
+            picture_of_run(&source, &Run::new(&source, trace.as_slice())?)
+        }
     }
 }
 
 /// A run into a stop.
 #[derive(Drop)]
 pub(crate) struct Run {
-    alloc: Global,
     steps: Vec<Made>,
     /// The node after the last step.
     last: usize,
 }
 
 impl Run {
-    fn new(alloc: Global, plan: &Plan, trace: &[Step]) -> Result<Run, AllocError> {
-        let mut steps = Vec::new(alloc);
-        let mut node = plan.start();
+    fn new(source: &Source, trace: &[Step]) -> Result<Run, AllocError> {
+        let mut steps = Vec::new(source.alloc);
+        let mut node = source.plan.start();
         for step in trace {
             let before = node;
-            node = stepped(alloc, plan, before, *step)?;
+            node = stepped(source.alloc, source.plan, before, *step)?;
             steps.push(Made {
                 step: *step,
                 before,
                 after: node,
             })?;
         }
-        Ok(Run {
-            alloc,
-            steps,
-            last: node,
-        })
+        Ok(Run { steps, last: node })
     }
 
     /// The node at a row. Row 0 is before the first step.
@@ -83,21 +82,21 @@ fn picture_of_none(alloc: Global, visited: usize) -> Result<String, AllocError> 
     svg.finish()
 }
 
-fn picture_of_run(plan: &Plan, names: &Names, run: &Run) -> Result<String, AllocError> {
-    let layout = Layout::of_run(plan, names, run)?;
-    let mut svg = Svg::new(run.alloc, layout.width(), layout.height())?;
-    let list = plan.stopped(run.alloc, run.last)?;
+fn picture_of_run(source: &Source, run: &Run) -> Result<String, AllocError> {
+    let layout = Layout::of_run(source, run)?;
+    let mut svg = Svg::new(source.alloc, layout.width(), layout.height())?;
+    let list = source.plan.stopped(source.alloc, run.last)?;
     svg.text("name", layout.title(), stop_word(list.as_slice()))?;
     write_legend(&mut svg, &layout)?;
-    for party in 0..names.parties.len() {
-        write_column(&mut svg, names, &layout, party)?;
-        write_bars(&mut svg, plan, names, run, &layout, party)?;
+    for party in 0..source.names.parties.len() {
+        write_column(&mut svg, source.names, &layout, party)?;
+        write_bars(&mut svg, source, run, &layout, party)?;
     }
-    write_steps(&mut svg, plan, names, run, &layout)?;
+    write_steps(&mut svg, source, run, &layout)?;
     for stopped in &list {
-        write_stopped(run.alloc, &mut svg, plan, names, &layout, stopped)?;
+        write_stopped(&mut svg, source, &layout, stopped)?;
     }
-    draw_waits(&mut svg, plan, names, run, &layout, list.as_slice())?;
+    draw_waits(&mut svg, source, run, &layout, list.as_slice())?;
     svg.finish()
 }
 
@@ -116,16 +115,15 @@ fn write_column(
 /// A dot for each step, and what it does.
 fn write_steps(
     svg: &mut Svg,
-    plan: &Plan,
-    names: &Names,
+    source: &Source,
     run: &Run,
     layout: &Layout,
 ) -> Result<(), AllocError> {
     for (row, made) in run.steps.iter().enumerate() {
         let row = row.saturating_add(1);
         svg.dot(layout.life(made.step.party, row))?;
-        let mut call = String::new(run.alloc);
-        write_made(run.alloc, &mut call, plan, names, *made)?;
+        let mut call = String::new(source.alloc);
+        write_made(&mut call, source, *made)?;
         svg.text("call", layout.beside(made.step.party, row), call.as_str())?;
     }
     Ok(())

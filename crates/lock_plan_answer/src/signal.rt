@@ -5,8 +5,9 @@ ghost use Rattle.lock_plan_answer.specs.RowNames.{row_name, value_of};
 ghost use Rattle.lock_plan_answer.specs.Signals.{sleepers, woken, rows_text, notice_text, set_word, start_word, assert_word, assert_text, signal_text, turn_text, value_text, choice_text};
 
 use crate::names::{is_party, name_at, row_name, value_of};
+use crate::source::Source;
 use crate::stand::sleep_of;
-use lock_plan::{Block, Plan, Signal};
+use lock_plan::{Block, Signal};
 use lock_plan_text::Names;
 use std::alloc::{AllocError, Global};
 
@@ -46,33 +47,36 @@ fn turn_text(other: bool) -> &'static str
 
 /// Appends a signal that goes this way from a node.
 pub(crate) fn write_signal(
-    alloc: Global,
     text: &mut String,
-    plan: &Plan,
-    names: &Names,
+    source: &Source,
     node: usize,
     way: usize,
     signal: Signal,
 ) -> Result<(), AllocError>
     ensures { OnOk result (string_bytes text.new ≡ string_bytes text.old
-        ++ signal_text names.now (world_of plan.now node) way signal) }
+        ++ signal_text source.now.names.now (world_of source.now.plan.now node) way signal) }
 {
     match signal {
         Signal::Idle | Signal::Sleep(_) => Ok(()),
-        Signal::Start(row) => write!(text, "{}{}", start_word(names, row), row_name(names, row)),
+        Signal::Start(row) => write!(
+            text,
+            "{}{}",
+            start_word(source.names, row),
+            row_name(source.names, row)
+        ),
         Signal::Clear(row) => {
-            let word = set_word(value_of(names, row, false));
-            write!(text, "{word}{}", row_name(names, row))
+            let word = set_word(value_of(source.names, row, false));
+            write!(text, "{word}{}", row_name(source.names, row))
         }
-        Signal::Join(row) => write!(text, "join {}", row_name(names, row)),
-        Signal::Assert(row, ended) => write_assert(text, names, row, ended),
+        Signal::Join(row) => write!(text, "join {}", row_name(source.names, row)),
+        Signal::Assert(row, ended) => write_assert(text, source.names, row, ended),
         Signal::NotifyOne(cond) => {
-            let rows = woken(alloc, way)?;
-            write_notice(text, "notify_one ", names, cond, rows.as_slice())
+            let rows = woken(source.alloc, way)?;
+            write_notice(text, "notify_one ", source.names, cond, rows.as_slice())
         }
         Signal::NotifyAll(cond) => {
-            let rows = sleepers(alloc, plan, node, cond)?;
-            write_notice(text, "notify_all ", names, cond, rows.as_slice())
+            let rows = sleepers(source, node, cond)?;
+            write_notice(text, "notify_all ", source.names, cond, rows.as_slice())
         }
     }
 }
@@ -124,12 +128,12 @@ fn woken(alloc: Global, way: usize) -> Result<Vec<usize>, AllocError>
 }
 
 /// Returns the rows that sleep on a condition variable at a node, in order.
-fn sleepers(alloc: Global, plan: &Plan, node: usize, cond: usize) -> Result<Vec<usize>, AllocError>
-    ensures { IfOk result (λ rows. rows.items ≡ sleepers (world_of plan.now node) cond) }
+fn sleepers(source: &Source, node: usize, cond: usize) -> Result<Vec<usize>, AllocError>
+    ensures { IfOk result (λ rows. rows.items ≡ sleepers (world_of source.now.plan.now node) cond) }
 {
-    let mut rows = Vec::new(alloc);
-    for row in 0..plan.parties() {
-        if sleep_of(plan, node, row) == Some(cond) {
+    let mut rows = Vec::new(source.alloc);
+    for row in 0..source.plan.parties() {
+        if sleep_of(source.plan, node, row) == Some(cond) {
             rows.push(row)?;
         }
     }

@@ -10,11 +10,11 @@ ghost use Rattle.lock_plan_answer.specs.Steps.{call_by, call_text, made_text, ma
 use crate::line_mark::{LineMark, write_mark};
 use crate::names::name_at;
 use crate::signal::{write_choice, write_signal};
+use crate::source::Source;
 use crate::stand::{act_at, sleep_of, turn_at};
 use crate::words::step_word;
 use lock_modes::{Kind, LockStep};
 use lock_plan::{Act, Plan, PlanCall, PlanLock, Step, Turn};
-use lock_plan_text::Names;
 use std::alloc::{AllocError, Global};
 
 /// A step, and the nodes before and after it.
@@ -27,26 +27,24 @@ pub(crate) struct Made {
 
 /// Appends the steps of a trace, a line each, with the mark before it.
 pub(crate) fn write_steps(
-    alloc: Global,
     text: &mut String,
-    plan: &Plan,
-    names: &Names,
+    source: &Source,
     trace: &[Step],
     mark: LineMark,
 ) -> Result<(), AllocError>
     ensures { OnOk result (string_bytes text.new ≡ string_bytes text.old
-        ++ steps_text (mark_by mark.entry) plan.now.locks.items names.now (first_world plan.now.locks.items (programs_of plan.now)) trace.now) }
+        ++ steps_text (mark_by mark.entry) source.now.plan.now.locks.items source.now.names.now (first_world source.now.plan.now.locks.items (programs_of source.now.plan.now)) trace.now) }
 {
-    let mut node = plan.start();
+    let mut node = source.plan.start();
     for step in trace {
         let before = node;
-        node = stepped(alloc, plan, before, *step)?;
+        node = stepped(source.alloc, source.plan, before, *step)?;
         let made = Made {
             step: *step,
             before,
             after: node,
         };
-        write_step(alloc, text, plan, names, made, mark)?;
+        write_step(text, source, made, mark)?;
     }
     Ok(())
 }
@@ -86,83 +84,73 @@ pub(crate) fn stepped(
 
 /// Appends the line of a step, with the mark before it.
 fn write_step(
-    alloc: Global,
     text: &mut String,
-    plan: &Plan,
-    names: &Names,
+    source: &Source,
     made: Made,
     mark: LineMark,
 ) -> Result<(), AllocError>
-    requires { world_of plan.now made.after ≡ stepped plan.now.locks.items (world_of plan.now made.before) made.step }
+    requires { world_of source.now.plan.now made.after ≡ stepped source.now.plan.now.locks.items (world_of source.now.plan.now made.before) made.step }
     ensures { OnOk result (string_bytes text.new ≡ string_bytes text.old
-        ++ marked_step (mark_by mark.entry) plan.now.locks.items names.now (world_of plan.now made.before) made.step) }
+        ++ marked_step (mark_by mark.entry) source.now.plan.now.locks.items source.now.names.now (world_of source.now.plan.now made.before) made.step) }
 {
-    write_mark(text, plan, made.before, made.step.party, mark)?;
+    write_mark(text, source.plan, made.before, made.step.party, mark)?;
     write!(
         text,
         "{} ",
-        name_at(names.parties.as_slice(), made.step.party)
+        name_at(source.names.parties.as_slice(), made.step.party)
     )?;
-    write_made(alloc, text, plan, names, made)?;
+    write_made(text, source, made)?;
     text.push('\n')
 }
 
 /// Appends what a step does, or nothing where its party has ended.
-pub(crate) fn write_made(
-    alloc: Global,
-    text: &mut String,
-    plan: &Plan,
-    names: &Names,
-    made: Made,
-) -> Result<(), AllocError>
+pub(crate) fn write_made(text: &mut String, source: &Source, made: Made) -> Result<(), AllocError>
     ensures { OnOk result (string_bytes text.new ≡ string_bytes text.old
-        ++ made_text plan.now.locks.items names.now
-        (world_of plan.now made.before) (world_of plan.now made.after) made.step) }
+        ++ made_text source.now.plan.now.locks.items source.now.names.now
+        (world_of source.now.plan.now made.before) (world_of source.now.plan.now made.after) made.step) }
 {
     let other = made.step.way == 1;
-    match act_at(plan, made.before, made.step.party) {
+    match act_at(source.plan, made.before, made.step.party) {
         None => Ok(()),
-        Some(Act::Call(call)) => write_made_call(alloc, text, plan, names, made, call),
+        Some(Act::Call(call)) => write_made_call(text, source, made, call),
         Some(Act::Try(call)) => {
             text.push_str("try ")?;
-            write_call(text, plan, names, call)?;
+            write_call(text, source, call)?;
             text.push_str(if other { ": refused" } else { ": admitted" })
         }
-        Some(Act::Choose(block)) => write_choice(text, names, other, block),
+        Some(Act::Choose(block)) => write_choice(text, source.names, other, block),
         Some(Act::Signal(signal)) => {
             let Made { step, before, .. } = made;
-            write_signal(alloc, text, plan, names, before, step.way, signal)
+            write_signal(text, source, before, step.way, signal)
         }
     }
 }
 
 /// Appends what a step with a call does: the call, an announcement for it, or a wait, if its party sleeps after it.
 fn write_made_call(
-    alloc: Global,
     text: &mut String,
-    plan: &Plan,
-    names: &Names,
+    source: &Source,
     made: Made,
     call: PlanCall,
 ) -> Result<(), AllocError>
-    ensures { OnOk result (string_bytes text.new ≡ string_bytes text.old ++ call_by plan.now.locks.items names.now
-        (turn_of plan.now.locks.items (world_of plan.now made.before) made.step.party)
-        (sleep_of (world_of plan.now made.after) made.step.party) call) }
+    ensures { OnOk result (string_bytes text.new ≡ string_bytes text.old ++ call_by source.now.plan.now.locks.items source.now.names.now
+        (turn_of source.now.plan.now.locks.items (world_of source.now.plan.now made.before) made.step.party)
+        (sleep_of (world_of source.now.plan.now made.after) made.step.party) call) }
 {
     let party = made.step.party;
-    match sleep_of(plan, made.after, party) {
+    match sleep_of(source.plan, made.after, party) {
         Some(cond) => {
-            let cond = name_at(names.conds.as_slice(), cond);
+            let cond = name_at(source.names.conds.as_slice(), cond);
             write!(
                 text,
                 "wait {cond} {}",
-                name_at(names.locks.as_slice(), call.lock)
+                name_at(source.names.locks.as_slice(), call.lock)
             )
         }
         None => {
-            let turn = turn_at(alloc, plan, made.before, party)?;
+            let turn = turn_at(source.alloc, source.plan, made.before, party)?;
             let step = made_step(turn, call.step);
-            write_call(text, plan, names, PlanCall { step, ..call })
+            write_call(text, source, PlanCall { step, ..call })
         }
     }
 }
@@ -180,18 +168,17 @@ fn made_step(turn: Option<Turn>, step: LockStep) -> LockStep
 /// Appends a call: its word and its lock.
 pub(crate) fn write_call(
     text: &mut String,
-    plan: &Plan,
-    names: &Names,
+    source: &Source,
     call: PlanCall,
 ) -> Result<(), AllocError>
-    ensures { OnOk result (string_bytes text.new ≡ string_bytes text.old ++ call_text plan.now.locks.items names.now call) }
+    ensures { OnOk result (string_bytes text.new ≡ string_bytes text.old ++ call_text source.now.plan.now.locks.items source.now.names.now call) }
 {
-    let is_rwlock = lock_at(plan, call.lock).kind.is_rwlock();
+    let is_rwlock = lock_at(source.plan, call.lock).kind.is_rwlock();
     let word = step_word(is_rwlock, call.step);
     write!(
         text,
         "{word} {}",
-        name_at(names.locks.as_slice(), call.lock)
+        name_at(source.names.locks.as_slice(), call.lock)
     )
 }
 

@@ -10,10 +10,10 @@ use crate::line_mark::{LineMark, write_mark};
 use crate::mark::{Marked, Style, add_marks, write_marks};
 use crate::names::{name_at, row_name};
 use crate::signal::write_assert;
+use crate::source::Source;
 use crate::step::{lock_at, write_call};
 use lock_modes::{LockStep, Mode, ModeStep};
-use lock_plan::{Act, PartyHold, Plan, PlanLock, Signal, Stopped};
-use lock_plan_text::Names;
+use lock_plan::{Act, PartyHold, PlanLock, Signal, Stopped};
 use std::alloc::{AllocError, Global};
 
 /// Returns the word for a stop with these stopped parties.
@@ -51,43 +51,43 @@ fn is_refused_call(stopped: Stopped) -> bool
 
 /// Appends a line for each of these parties, which wait or are refused at a node, with the mark before it.
 pub(crate) fn write_stop_lines(
-    alloc: Global,
     text: &mut String,
-    plan: &Plan,
-    names: &Names,
+    source: &Source,
     node: usize,
     list: &[Stopped],
     mark: LineMark,
 ) -> Result<(), AllocError>
     ensures { OnOk result (string_bytes text.new ≡ string_bytes text.old
-        ++ flat_map (marked_stopped (mark_by mark.entry) plan.now.locks.items names.now (world_of plan.now node)) list.now) }
+        ++ flat_map (marked_stopped (mark_by mark.entry) source.now.plan.now.locks.items source.now.names.now (world_of source.now.plan.now node)) list.now) }
 {
     for stopped in list {
-        write_stopped(alloc, text, plan, names, node, stopped, mark)?;
+        write_stopped(text, source, node, stopped, mark)?;
     }
     Ok(())
 }
 
 /// Appends the line of a stopped party, with the mark before it.
 fn write_stopped(
-    alloc: Global,
     text: &mut String,
-    plan: &Plan,
-    names: &Names,
+    source: &Source,
     node: usize,
     stopped: &Stopped,
     mark: LineMark,
 ) -> Result<(), AllocError>
     ensures { OnOk result (string_bytes text.new ≡ string_bytes text.old
-        ++ marked_stopped (mark_by mark.entry) plan.now.locks.items names.now (world_of plan.now node) stopped.now) }
+        ++ marked_stopped (mark_by mark.entry) source.now.plan.now.locks.items source.now.names.now (world_of source.now.plan.now node) stopped.now) }
 {
-    write_mark(text, plan, node, stopped.party, mark)?;
-    let party = name_at(names.parties.as_slice(), stopped.party);
+    write_mark(text, source.plan, node, stopped.party, mark)?;
+    let party = name_at(source.names.parties.as_slice(), stopped.party);
     write!(text, "{party}{}", says(stopped.is_refused))?;
-    write_awaited(text, plan, names, stopped.act)?;
+    write_awaited(text, source, stopped.act)?;
     match stopped.behind {
-        None => write_holders(alloc, text, plan, names, node, stopped.act)?,
-        Some(first) => write!(text, " behind {}", name_at(names.parties.as_slice(), first))?,
+        None => write_holders(text, source, node, stopped.act)?,
+        Some(first) => write!(
+            text,
+            " behind {}",
+            name_at(source.names.parties.as_slice(), first)
+        )?,
     }
     text.push('\n')
 }
@@ -103,43 +103,40 @@ fn says(is_refused: bool) -> &'static str
 }
 
 /// Appends what a party with this act waits for: its call, a notification, or the end of a row; or what it asserts.
-pub(crate) fn write_awaited(
-    text: &mut String,
-    plan: &Plan,
-    names: &Names,
-    act: Act,
-) -> Result<(), AllocError>
+pub(crate) fn write_awaited(text: &mut String, source: &Source, act: Act) -> Result<(), AllocError>
     ensures { OnOk result (string_bytes text.new
-        ≡ string_bytes text.old ++ awaited_text plan.now.locks.items names.now act) }
+        ≡ string_bytes text.old ++ awaited_text source.now.plan.now.locks.items source.now.names.now act) }
 {
     match act {
-        Act::Call(call) => write_call(text, plan, names, call),
+        Act::Call(call) => write_call(text, source, call),
         Act::Signal(Signal::Sleep(cond)) => {
-            write!(text, "notify {}", name_at(names.conds.as_slice(), cond))
+            write!(
+                text,
+                "notify {}",
+                name_at(source.names.conds.as_slice(), cond)
+            )
         }
-        Act::Signal(Signal::Join(row)) => write!(text, "join {}", row_name(names, row)),
-        Act::Signal(Signal::Assert(row, ended)) => write_assert(text, names, row, ended),
+        Act::Signal(Signal::Join(row)) => write!(text, "join {}", row_name(source.names, row)),
+        Act::Signal(Signal::Assert(row, ended)) => write_assert(text, source.names, row, ended),
         Act::Signal(_) | Act::Try(_) | Act::Choose(_) => Ok(()),
     }
 }
 
 /// Appends who holds the lock of a call at a node.
 fn write_holders(
-    alloc: Global,
     text: &mut String,
-    plan: &Plan,
-    names: &Names,
+    source: &Source,
     node: usize,
     act: Act,
 ) -> Result<(), AllocError>
     ensures { OnOk result (string_bytes text.new ≡ string_bytes text.old
-        ++ holders_text plan.now.locks.items names.now (world_of plan.now node) act) }
+        ++ holders_text source.now.plan.now.locks.items source.now.names.now (world_of source.now.plan.now node) act) }
 {
     match act {
         Act::Call(call) => {
-            let holds = plan.holds_of(alloc, node, call.lock)?;
-            let lock = lock_at(plan, call.lock);
-            write_call_holders(alloc, text, names, lock, holds.as_slice(), call.step)
+            let holds = source.plan.holds_of(source.alloc, node, call.lock)?;
+            let lock = lock_at(source.plan, call.lock);
+            write_call_holders(text, source, lock, holds.as_slice(), call.step)
         }
         Act::Try(_) | Act::Choose(_) | Act::Signal(_) => Ok(()),
     }
@@ -147,22 +144,21 @@ fn write_holders(
 
 /// Appends who holds the lock for which a step waits; if it has all its readers, each hold and the limit.
 fn write_call_holders(
-    alloc: Global,
     text: &mut String,
-    names: &Names,
+    source: &Source,
     lock: PlanLock,
     holds: &[PartyHold],
     step: LockStep,
 ) -> Result<(), AllocError>
-    ensures { OnOk result (string_bytes text.new ≡ string_bytes text.old ++ call_holders names.now lock holds.now step) }
+    ensures { OnOk result (string_bytes text.new ≡ string_bytes text.old ++ call_holders source.now.names.now lock holds.now step) }
 {
     let is_full = is_full(lock.limit, holds, step);
-    let marks = holders(alloc, is_full, holds)?;
+    let marks = holders(source.alloc, is_full, holds)?;
     text.push_str(": ")?;
     write_marks(
         text,
         Style::Words,
-        names.parties.as_slice(),
+        source.names.parties.as_slice(),
         marks.as_slice(),
     )?;
     if is_full {

@@ -3,26 +3,24 @@ use crate::mark::Mark;
 use crate::picture::Run;
 use crate::picture::layout::Layout;
 use crate::picture::svg::{Spot, Svg};
+use crate::source::Source;
 use crate::stand::hold_at;
-use lock_plan::Plan;
 use lock_plan_text::Names;
 use std::alloc::AllocError;
 
 /// Draws what a party holds, lock by lock and mode by mode.
 pub(crate) fn write_bars(
     svg: &mut Svg,
-    plan: &Plan,
-    names: &Names,
+    source: &Source,
     run: &Run,
     layout: &Layout,
     party: usize,
 ) -> Result<(), AllocError> {
-    for lock in 0..plan.locks().len() {
+    for lock in 0..source.plan.locks().len() {
         for mark in &Mark::ALL {
             write_bars_of(
                 svg,
-                plan,
-                names,
+                source,
                 run,
                 layout,
                 HeldMark {
@@ -47,27 +45,26 @@ struct HeldMark {
 /// Draws a bar for each time in which a party holds a lock in a mode.
 fn write_bars_of(
     svg: &mut Svg,
-    plan: &Plan,
-    names: &Names,
+    source: &Source,
     run: &Run,
     layout: &Layout,
     held: HeldMark,
 ) -> Result<(), AllocError> {
     let mut since = None;
     for row in 0..layout.last_row() {
-        let hold = hold_at(plan, run.node(row), held.party, held.lock);
+        let hold = hold_at(source.plan, run.node(row), held.party, held.lock);
         let is_held = held.mark.is_of(hold);
         match since {
             None if is_held => since = Some(row),
             Some(first) if !is_held => {
-                write_bar(svg, names, layout, held, first, row)?;
+                write_bar(svg, source.names, layout, held, first, row)?;
                 since = None;
             }
             _ => {}
         }
     }
     match since {
-        Some(first) => write_bar(svg, names, layout, held, first, layout.last_row()),
+        Some(first) => write_bar(svg, source.names, layout, held, first, layout.last_row()),
         None => Ok(()),
     }
 }

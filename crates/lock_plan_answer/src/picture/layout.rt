@@ -2,11 +2,10 @@
 use crate::picture::Run;
 use crate::picture::svg::Spot;
 use crate::picture::waits::write_reason;
+use crate::source::Source;
 use crate::stand::act_at;
 use crate::step::write_made;
 use crate::stop::write_awaited;
-use lock_plan::Plan;
-use lock_plan_text::Names;
 use std::alloc::AllocError;
 
 /// The sizes that a picture's places follow from. Numbers past the largest are the largest.
@@ -49,32 +48,32 @@ impl Layout {
     }
 
     /// The layout of a run.
-    pub(crate) fn of_run(plan: &Plan, names: &Names, run: &Run) -> Result<Layout, AllocError> {
+    pub(crate) fn of_run(source: &Source, run: &Run) -> Result<Layout, AllocError> {
         let mut letters = 10;
-        for name in names.parties.as_slice() {
+        for name in source.names.parties.as_slice() {
             letters = letters.max(name.len());
         }
         for made in &run.steps {
-            let mut text = String::new(run.alloc);
-            write_made(run.alloc, &mut text, plan, names, *made)?;
+            let mut text = String::new(source.alloc);
+            write_made(&mut text, source, *made)?;
             letters = letters.max(text.len());
         }
-        for party in 0..names.parties.len() {
-            if let Some(act) = act_at(plan, run.last, party) {
-                let mut text = String::new(run.alloc);
-                write_awaited(&mut text, plan, names, act)?;
+        for party in 0..source.names.parties.len() {
+            if let Some(act) = act_at(source.plan, run.last, party) {
+                let mut text = String::new(source.alloc);
+                write_awaited(&mut text, source, act)?;
                 letters = letters.max(text.len());
             }
         }
-        for stopped in &plan.stopped(run.alloc, run.last)? {
-            let mut text = String::new(run.alloc);
-            write_reason(&mut text, plan, names, stopped)?;
+        for stopped in &source.plan.stopped(source.alloc, run.last)? {
+            let mut text = String::new(source.alloc);
+            write_reason(&mut text, source, stopped)?;
             letters = letters.max(text.len());
         }
         Ok(Layout {
-            parties: names.parties.len(),
+            parties: source.names.parties.len(),
             steps: run.steps.len(),
-            slots: plan.locks().len(),
+            slots: source.plan.locks().len(),
             letters,
         })
     }

@@ -3,17 +3,15 @@ use crate::names::name_at;
 use crate::picture::Run;
 use crate::picture::layout::Layout;
 use crate::picture::svg::{Spot, Svg};
+use crate::source::Source;
 use crate::stop::write_awaited;
-use lock_plan::{Act, Plan, Signal, Stopped};
-use lock_plan_text::Names;
+use lock_plan::{Act, Signal, Stopped};
 use std::alloc::{AllocError, Global};
 
 /// Writes what a stopped party waits for below its line.
 pub(crate) fn write_stopped(
-    alloc: Global,
     svg: &mut Svg,
-    plan: &Plan,
-    names: &Names,
+    source: &Source,
     layout: &Layout,
     stopped: &Stopped,
 ) -> Result<(), AllocError> {
@@ -31,21 +29,24 @@ pub(crate) fn write_stopped(
         y: spot.y.saturating_add(16),
         ..spot
     };
-    let mut reason = String::new(alloc);
-    write_reason(&mut reason, plan, names, stopped)?;
+    let mut reason = String::new(source.alloc);
+    write_reason(&mut reason, source, stopped)?;
     svg.text("call", below, reason.as_str())
 }
 
 /// Appends what a stopped party waits for, and behind whom.
 pub(crate) fn write_reason(
     text: &mut String,
-    plan: &Plan,
-    names: &Names,
+    source: &Source,
     stopped: &Stopped,
 ) -> Result<(), AllocError> {
-    write_awaited(text, plan, names, stopped.act)?;
+    write_awaited(text, source, stopped.act)?;
     if let Some(first) = stopped.behind {
-        write!(text, " behind {}", name_at(names.parties.as_slice(), first))?;
+        write!(
+            text,
+            " behind {}",
+            name_at(source.names.parties.as_slice(), first)
+        )?;
     }
     Ok(())
 }
@@ -61,17 +62,16 @@ struct Edge {
 /// Draws an arrow from each party that waits to those that it waits for, heavier where it is part of a circle.
 pub(crate) fn draw_waits(
     svg: &mut Svg,
-    plan: &Plan,
-    names: &Names,
+    source: &Source,
     run: &Run,
     layout: &Layout,
     list: &[Stopped],
 ) -> Result<(), AllocError> {
-    let parties = names.parties.len();
-    let edges = edges_of(run.alloc, plan, parties, run.last, list)?;
+    let parties = source.names.parties.len();
+    let edges = edges_of(source, parties, run.last, list)?;
     for edge in &edges {
         let is_circle = reaches(
-            run.alloc,
+            source.alloc,
             edges.as_slice(),
             parties,
             edge.awaited,
@@ -91,13 +91,12 @@ pub(crate) fn draw_waits(
 
 /// Returns who waits for whom at a node.
 fn edges_of(
-    alloc: Global,
-    plan: &Plan,
+    source: &Source,
     parties: usize,
     node: usize,
     list: &[Stopped],
 ) -> Result<Vec<Edge>, AllocError> {
-    let mut edges = Vec::new(alloc);
+    let mut edges = Vec::new(source.alloc);
     for stopped in list {
         if let Some(first) = stopped.behind {
             edges.push(Edge {
@@ -108,9 +107,7 @@ fn edges_of(
             continue;
         }
         match stopped.act {
-            Act::Call(call) => {
-                add_holders(alloc, &mut edges, plan, node, stopped.party, call.lock)?
-            }
+            Act::Call(call) => { add_holders(&mut edges, source, node, stopped.party, call.lock)? }
             Act::Signal(Signal::Join(row)) if row < parties => edges.push(Edge {
                 waiter: stopped.party,
                 awaited: row,
@@ -124,14 +121,13 @@ fn edges_of(
 
 /// Adds the holders of a lock for which a party waits. It waits for itself only where nobody else holds the lock.
 fn add_holders(
-    alloc: Global,
     edges: &mut Vec<Edge>,
-    plan: &Plan,
+    source: &Source,
     node: usize,
     waiter: usize,
     lock: usize,
 ) -> Result<(), AllocError> {
-    let holds = plan.holds_of(alloc, node, lock)?;
+    let holds = source.plan.holds_of(source.alloc, node, lock)?;
     for it in &holds {
         if it.party != waiter || holds.len() == 1 {
             edges.push(Edge {

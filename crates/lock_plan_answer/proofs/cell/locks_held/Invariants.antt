@@ -5,4 +5,4 @@ use Rattle.lock_plan_answer.specs.Marks.{locks_held}
 use Rattle.lock_plan_answer.proofs.cell.locks_held.Given as goal
 
 abbrev pub invariant-loop-lock : goal.invariant-loop-lock
-invariant-loop-lock l = l.marks.items ≡ locks_held (get_or (world_of l.plan l.node) l.party no_stand).holds l.lock
+invariant-loop-lock l = l.marks.items ≡ locks_held (get_or (world_of l.source.plan.now l.node) l.party no_stand).holds l.lock

@@ -7,7 +7,7 @@ use Rattle.lock_plan_answer.proofs.going.going.Goals as goal
 
 pub returns : goal.returns
 returns c =
-    let plan = c.args.plan.now in
+    let plan = c.args.source.now.plan.now in
     let n = c.args.node in
     let at_end : c.loop-row.row ≡ length plan.programs.items =
     omega (arith, c.loop-row-test.false, c.loop-row.auto.row-end, c.parties-row-end.ensures) in

@@ -5,4 +5,4 @@ use Rattle.lock_plan_answer.specs.Going.{going_at}
 use Rattle.lock_plan_answer.proofs.going.going.Given as goal
 
 abbrev pub invariant-loop-row : goal.invariant-loop-row
-invariant-loop-row l = l.rows.items ≡ said_below (going_at l.plan.locks.items (world_of l.plan l.node)) l.row
+invariant-loop-row l = l.rows.items ≡ said_below (going_at l.source.plan.now.locks.items (world_of l.source.plan.now l.node)) l.row

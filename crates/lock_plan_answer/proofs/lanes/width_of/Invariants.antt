@@ -5,5 +5,5 @@ use Rattle.lock_plan_answer.proofs.lanes.width_of.Given as goal
 
 abbrev pub invariant-loop-row : goal.invariant-loop-row
 invariant-loop-row l =
-    width_over l.width (map (cell_of l.plan l.names) (drop l.row-index l.rows)) l.party
-    ≡ width_over 19 (map (cell_of l.plan l.names) l.rows) l.party
+    width_over l.width (map (cell_of l.source.plan.now l.source.names.now) (drop l.row-index l.rows)) l.party
+    ≡ width_over 19 (map (cell_of l.source.plan.now l.source.names.now) l.rows) l.party

@@ -5,7 +5,7 @@ use Rattle.lock_plan_answer.proofs.lanes.write_row.Goals as goal
 
 pub loop-party-preserved : goal.loop-party-preserved
 loop-party-preserved c =
-    let cell = cell_of c.args.plan.now c.args.names.now c.args.row in
+    let cell = cell_of c.args.source.now.plan.now c.args.source.now.names.now c.args.row in
     let before = string_bytes c.loop-party.text in
     cells_more c.args.widths.now cell c.loop-party.party (string_bytes c.args.text.now) before (string_bytes c.write_padded.new.text)
     c.loop-party.invariant
@@ -16,10 +16,10 @@ pub returns : goal.returns
 unfolding lib.Utf8.encode
 returns c =
     let party = c.loop-party.party in
-    let parties = length c.args.names.now.parties in
+    let parties = length c.args.source.now.names.now.parties in
     let at_end : party ≡ c.in-Some.last = omega (arith, c.loop-party-test.false, c.loop-party.auto.party-end) in
     let are : parties ≡ suc party = omega (arith, at_end, c.in-Some.ensures, c.len.ensures) in
-    row_end c.args.widths.now (cell_of c.args.plan.now c.args.names.now c.args.row) party parties
+    row_end c.args.widths.now (cell_of c.args.source.now.plan.now c.args.source.now.names.now c.args.row) party parties
     (string_bytes c.args.text.now)
     (string_bytes c.loop-party.text) (string_bytes c.write_cell.new.text) (string_bytes c.push-2.new.self)
     c.loop-party.invariant (rw at_end c.in_ok-write_cell.ensures) c.in_ok-push.ensures.bytes are

@@ -5,4 +5,4 @@ use Rattle.lock_plan_answer.specs.Signals.{sleeper_at}
 use Rattle.lock_plan_answer.proofs.signal.sleepers.Given as goal
 
 abbrev pub invariant-loop-row : goal.invariant-loop-row
-invariant-loop-row l = l.rows.items ≡ said_below (sleeper_at (world_of l.plan l.node) l.cond) l.row
+invariant-loop-row l = l.rows.items ≡ said_below (sleeper_at (world_of l.source.plan.now l.node) l.cond) l.row

@@ -8,7 +8,7 @@ use Rattle.lock_plan_answer.proofs.step.write_steps.Given as goal
 
 abbrev pub invariant-loop-step : goal.invariant-loop-step
 invariant-loop-step l = record {
-  text : string_bytes l.text ++ steps_text (mark_by l.mark) l.plan.locks.items l.names (world_of l.plan l.node) (drop l.step-index l.trace)
-      ≡ string_bytes l.initial.text ++ steps_text (mark_by l.mark) l.plan.locks.items l.names (first_world l.plan.locks.items (programs_of l.plan)) l.trace;
-  within : l.node < l.plan.nodes;
+  text : string_bytes l.text ++ steps_text (mark_by l.mark) l.source.plan.now.locks.items l.source.names.now (world_of l.source.plan.now l.node) (drop l.step-index l.trace)
+      ≡ string_bytes l.initial.text ++ steps_text (mark_by l.mark) l.source.plan.now.locks.items l.source.names.now (first_world l.source.plan.now.locks.items (programs_of l.source.plan.now)) l.trace;
+  within : l.node < l.source.plan.now.nodes;
 }

@@ -8,5 +8,5 @@ use Rattle.lock_plan_answer.proofs.stop.write_stop_lines.Given as goal
 
 abbrev pub invariant-loop-stopped : goal.invariant-loop-stopped
 invariant-loop-stopped l =
-    string_bytes l.text ++ flat_map (marked_stopped (mark_by l.mark) l.plan.locks.items l.names (world_of l.plan l.node)) (drop l.stopped-index l.list)
-    ≡ string_bytes l.initial.text ++ flat_map (marked_stopped (mark_by l.mark) l.plan.locks.items l.names (world_of l.plan l.node)) l.list
+    string_bytes l.text ++ flat_map (marked_stopped (mark_by l.mark) l.source.plan.now.locks.items l.source.names.now (world_of l.source.plan.now l.node)) (drop l.stopped-index l.list)
+    ≡ string_bytes l.initial.text ++ flat_map (marked_stopped (mark_by l.mark) l.source.plan.now.locks.items l.source.names.now (world_of l.source.plan.now l.node)) l.list
