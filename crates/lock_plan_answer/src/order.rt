@@ -2,11 +2,11 @@
 ghost use Rattle.std.specs.Prelude.{◌≡◌, ◌++◌, IfErr, IfOk, OnOk, true, string_bytes};
 ghost use Rattle.lock_plan_text.specs.declared.parser.fault.PlanTextFault.TheVariants.{OutOfMemory};
 ghost use Rattle.lock_plan_answer.specs.LineNumbers.{number_by};
-ghost use Rattle.lock_plan_answer.specs.Orders.{advice, broken_text, kept_text, line_of, lock_name, obstacle_line, order_names, order_text, party_name, separator, uncovered_line, wait_line};
+ghost use Rattle.lock_plan_answer.specs.Orders.{advice, broken_text, kept_text, line_of, lock_name, obstacle_line, order_names, order_text, party_name, separator, uncovered_line};
 
 use crate::line_numbers::LineNumbers;
 use crate::names::name_at;
-use lock_plan_order::{HeldWait, LockOrder, Obstacle};
+use lock_plan_order::{LockOrder, Obstacle};
 use lock_plan_text::{PlanText, PlanTextFault};
 use std::alloc::{AllocError, Global};
 
@@ -121,46 +121,30 @@ fn write_obstacle(
     ensures fault { IfErr result (λ fault. fault ≡ OutOfMemory) }
 {
     match obstacle {
-        Obstacle::Waits(wait) => write_wait(alloc, text, plan, lines, wait),
+        Obstacle::Waits(wait) => {
+            let line = line_of(alloc, plan, lines, wait.party, wait.place)?;
+            let party = party_name(plan, wait.party);
+            let (wanted, held) = (lock_name(plan, wait.wanted), lock_name(plan, wait.held));
+            Ok(writeln!(
+                text,
+                "line {line}: {party} waits for {wanted} while it holds {held}"
+            )?)
+        }
         Obstacle::TooManyWaits => {
-            text.push_str("more than 4096 waits: only an order of the locks is looked for\n")?;
-            Ok(())
+            Ok(text.push_str("more than 4096 waits: only an order of the locks is looked for\n")?)
         }
         Obstacle::Uncovered(party, place) => write_uncovered(
             alloc, text, plan, lines, party, place,
         ),
         Obstacle::Ends(party, lock) => {
             let (party, lock) = (party_name(plan, party), lock_name(plan, lock));
-            writeln!(text, "{party} ends while it holds {lock}")?;
-            Ok(())
+            Ok(writeln!(text, "{party} ends while it holds {lock}")?)
         }
         Obstacle::Unfit(lock) => {
             let lock = lock_name(plan, lock);
-            writeln!(text, "{lock}: no machine of guards is such a lock")?;
-            Ok(())
+            Ok(writeln!(text, "{lock}: no machine of guards is such a lock")?)
         }
     }
-}
-
-/// Appends that a party waits for a lock while it holds another one.
-fn write_wait(
-    alloc: Global,
-    text: &mut String,
-    plan: &PlanText,
-    lines: &LineNumbers,
-    wait: HeldWait,
-) -> Result<(), PlanTextFault>
-    ensures text { OnOk result (string_bytes text.new ≡ string_bytes text.old ++ wait_line (number_by lines.now) plan.now wait) }
-    ensures fault { IfErr result (λ fault. fault ≡ OutOfMemory) }
-{
-    let line = line_of(alloc, plan, lines, wait.party, wait.place)?;
-    let party = party_name(plan, wait.party);
-    let (wanted, held) = (lock_name(plan, wait.wanted), lock_name(plan, wait.held));
-    writeln!(
-        text,
-        "line {line}: {party} waits for {wanted} while it holds {held}"
-    )?;
-    Ok(())
 }
 
 /// Appends that an order says nothing of an act.
