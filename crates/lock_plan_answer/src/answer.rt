@@ -9,7 +9,7 @@ use crate::always_steps::write_always_steps;
 use crate::going::write_going_lines;
 use crate::line_mark::LineMark;
 use crate::source::Source;
-use crate::step::{last_node, write_steps};
+use crate::step::write_steps;
 use crate::stop::{stop_word, write_stop_lines};
 use lock_plan::{Explored, Plan, Step};
 use lock_plan_text::Names;
@@ -55,10 +55,11 @@ fn write_trace(
     ensures { OnOk result (string_bytes text.new ≡ string_bytes text.old
         ++ trace_text (mark_by mark.entry) source.now.plan.now.locks.items source.now.names.now (first_world source.now.plan.now.locks.items (programs_of source.now.plan.now)) trace.now) }
 {
-    let node = last_node(source.alloc, source.plan, trace)?;
+    let mut steps = String::new(source.alloc);
+    let node = write_steps(&mut steps, source, trace, mark)?;
     let list = source.plan.stopped(source.alloc, node)?;
     writeln!(text, "{}", stop_word(list.as_slice()))?;
-    write_steps(text, source, trace, mark)?;
+    text.push_str(steps.as_str())?;
     write_stop_lines(text, source, node, list.as_slice(), mark)?;
     write_going_lines(text, source, node, list.as_slice())
 }

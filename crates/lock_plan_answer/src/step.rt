@@ -25,15 +25,17 @@ pub(crate) struct Made {
     pub(crate) after: usize,
 }
 
-/// Appends the steps of a trace, a line each, with the mark before it.
+/// Appends the steps of a trace, a line each, with the mark before it. Returns the node after them.
 pub(crate) fn write_steps(
     text: &mut String,
     source: &Source,
     trace: &[Step],
     mark: LineMark,
-) -> Result<(), AllocError>
-    ensures { OnOk result (string_bytes text.new ≡ string_bytes text.old
+) -> Result<usize, AllocError>
+    ensures text { OnOk result (string_bytes text.new ≡ string_bytes text.old
         ++ steps_text (mark_by mark.entry) source.now.plan.now.locks.items source.now.names.now (first_world source.now.plan.now.locks.items (programs_of source.now.plan.now)) trace.now) }
+    ensures node { IfOk result (λ node. world_of source.now.plan.now node
+        ≡ last_world source.now.plan.now.locks.items (first_world source.now.plan.now.locks.items (programs_of source.now.plan.now)) trace.now) }
 {
     let mut node = source.plan.start();
     for step in trace {
@@ -45,18 +47,6 @@ pub(crate) fn write_steps(
             after: node,
         };
         write_step(text, source, made, mark)?;
-    }
-    Ok(())
-}
-
-/// Returns the node of the world after a trace.
-pub(crate) fn last_node(alloc: Global, plan: &Plan, trace: &[Step]) -> Result<usize, AllocError>
-    ensures { IfOk result (λ node. world_of plan.now node
-        ≡ last_world plan.now.locks.items (first_world plan.now.locks.items (programs_of plan.now)) trace.now) }
-{
-    let mut node = plan.start();
-    for step in trace {
-        node = stepped(alloc, plan, node, *step)?;
     }
     Ok(node)
 }
