@@ -1,11 +1,11 @@
 -- Why a line says nothing, and what the reason says of the line.
-use Rattle.std.specs.Prelude.{ℕ, ◌≤◌, List, [], length, get_or, map, IsFalse, nat_eq}
+use Rattle.std.specs.Prelude.{ℕ, ◌≤◌, List, [], length, get_or, map, IsFalse, IsTrue, nat_eq}
 use Rattle.std.specs.Bool.{⊤}
 use Rattle.std.specs.Borrow.{Bor}
 use Rattle.std.specs.Str.{chars}
 use Rattle.strsim.specs.Edits.{levenshtein_row}
 use Rattle.lock_plan_lines.specs.declared.line_fault.LineFault.{LineFault}
-use Rattle.lock_plan_lines.specs.declared.line_fault.LineFault.TheVariants.{UnknownWord, Misspelt, Form, NoName, NoRow, NoIndex, NoLimit, NoCount, NoTurns, NotTried, Unfit}
+use Rattle.lock_plan_lines.specs.declared.line_fault.LineFault.TheVariants.{UnknownWord, Misspelt, Form, NoName, NoRow, NoIndex, NoLimit, NoCount, NoCopies, NoTurns, NotTried, Unfit}
 use Rattle.lock_plan_lines.specs.PlanLines.{is_name}
 
 -- how many characters are put in, taken out or exchanged to make one word of the other
@@ -26,6 +26,7 @@ IsUnread (NoRow word) = IsFalse (is_name word.now)
 IsUnread (NoIndex word) = IsFalse (is_name word.now)
 IsUnread (NoLimit word) = ⊤
 IsUnread (NoCount word) = ⊤
+IsUnread (NoCopies name) = IsTrue (is_name name.now)
 IsUnread (NoTurns word) = ⊤
 IsUnread (NotTried word) = ⊤
 IsUnread (Unfit text) = ⊤

@@ -59,7 +59,7 @@ pub(crate) fn form_after(word: &str) -> Option<&'static str> {
         "if" | "assert" => "[not] FLAG",
         "wait" => "CONDVAR MUTEX [until [not] FLAG] [or timeout]",
         "notify_one" | "notify_all" => "CONDVAR",
-        "start" | "join" => "PARTY",
+        "start" | "join" => "PARTY [*]",
         "repeat" => "[N | until [not] FLAG]",
         "try" => "CALL LOCK",
         "forever" | "leave" | "return" | "either" | "or" | "else" | "end" => "",

@@ -30,6 +30,8 @@ pub enum LineFault<'a> {
     /// The lock of this word has no limit.
     NoLimit(&'a str),
     NoCount(&'a str),
+    /// A line for all copies of the party with this name, which has none.
+    NoCopies(&'a str),
     NoTurns(&'a str),
     NotTried(&'a str),
     /// Nothing of this kind has the name.
@@ -91,6 +93,9 @@ impl fmt::Display for LineFault<'_> {
             }
             LineFault::NoLimit(word) => write!(f, "'{word}' needs a limit from 1 to 4294967295"),
             LineFault::NoCount(word) => write!(f, "'{word}' is no count from 1 to 64, and no '*'"),
+            LineFault::NoCopies(name) => {
+                write!(f, "no copies of '{name}'; write 'party {name} COUNT'")
+            }
             LineFault::NoTurns(word) => write!(f, "'{word}' is no number of turns from 2 to 64"),
             LineFault::NotTried(word) => write!(
                 f,

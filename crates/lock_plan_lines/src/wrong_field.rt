@@ -28,6 +28,10 @@ pub(crate) fn wrong_field<'a>(word: &'a str, rest: &'a str) -> Option<LineFault<
             None => wrong_count(last),
             fault => fault,
         },
+        "start" | "join" => match wrong_copies(name, last) {
+            None => wrong_names(rest),
+            fault => fault,
+        },
         "repeat" => match wrong_turns(rest) {
             None => wrong_names(rest),
             fault => fault,
@@ -105,6 +109,16 @@ fn wrong_count(last: &str) -> Option<LineFault>
         return None;
     }
     Some(LineFault::NoCount(last))
+}
+
+/// Explains a name before a `*`. With copies, the line of each copy would be in the place of this line.
+fn wrong_copies<'a>(name: &'a str, last: &str) -> Option<LineFault<'a>>
+    ensures { IfSome result IsUnread }
+{
+    if last != "*" || !is_name(name) {
+        return None;
+    }
+    Some(LineFault::NoCopies(name))
 }
 
 /// Explains the turns of a `repeat` with this field after it. With a right number, its block has no end: else its lines would
