@@ -1,5 +1,6 @@
 -- Lines that are made from the last one on.
-use Rattle.std.proofs.Common.{◌≡◌, ℕ, zero, suc, ◌≤◌, ◌<◌, ◌+◌, List, ◌∷◌, ◌++◌, length, map, refl, subst, arith, length-append}
+use Rattle.std.proofs.Common.{◌≡◌, ℕ, zero, suc, ◌≤◌, ◌<◌, List, [], ◌∷◌, ◌++◌, length, map, ap, ◌∙◌, refl, subst, arith, append_assoc, length-append}
+use Rattle.std.proofs.lemmas.List.{map-append}
 use Rattle.lockexplore.specs.declared.lines.made.MadeLine.{MadeLine}
 use Rattle.lockexplore.specs.PlainLines.{IsLong, NumberedLine, line_of, put_down_from, text_of}
 
@@ -8,6 +9,14 @@ pub record IsLeft (P : List NumberedLine → Type 0) (left : List MadeLine) (all
   pub rest : List NumberedLine
   pub whole : all ≡ map line_of left ++ rest
   pub made : P rest
+
+-- a line is taken of those that are left
+pub one_taken : (left front : List MadeLine) (line : MadeLine) (all rest : List NumberedLine) → all ≡ map line_of left ++ rest
+    → left ≡ front ++ line ∷ [] → all ≡ map line_of front ++ (line_of line ∷ rest)
+one_taken left front line all rest whole taken =
+    whole ∙ ap (λ (ls : List MadeLine). map line_of ls ++ rest) taken
+    ∙ ap (λ (ls : List NumberedLine). ls ++ rest) (map-append line_of front (line ∷ []))
+    ∙ append_assoc (map line_of front) (line_of line ∷ []) rest
 
 pub put_is_longer : (n : ℕ) (add : ℕ → List NumberedLine → List NumberedLine) (lines : List NumberedLine)
     → ((k : ℕ) (below : List NumberedLine) → length (text_of below) ≤ length (text_of (add k below)))

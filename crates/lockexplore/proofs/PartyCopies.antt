@@ -6,6 +6,7 @@ use Rattle.lockexplore.specs.PlainLines.{NumberedLine, line_of, text_of}
 use Rattle.lockexplore.specs.Copies.{put_each}
 use Rattle.lockexplore.specs.Indices.{indexed_line}
 use Rattle.lockexplore.specs.Parties.{PartyWords, party_in, party_text, with_copies}
+use Rattle.lockexplore.specs.Mentions.{mention_in}
 use Rattle.lockexplore.specs.PartyParts.{put_parties, put_party}
 use Rattle.lockexplore.specs.Words.{parts_at}
 use Rattle.lockexplore.proofs.Backs.{line_is_longer}
@@ -19,6 +20,13 @@ pub more_words : (text word after name number third more : List ℕ) → parts_a
 more_words text word after name number third more one two three =
     let four = first_part 32 more in
     ap party_in (one ∙ ap (λ (ps : List (List ℕ)). word ∷ ps) (two ∙ ap (λ (ps : List (List ℕ)). name ∷ ps) (three ∙ ap (λ (ps : List (List ℕ)). third ∷ ps) four.1.1)))
+
+-- nor one for all copies of a party
+pub more_mentions : (text word after name last third more : List ℕ) → parts_at 32 text ≡ word ∷ parts_at 32 after
+    → parts_at 32 after ≡ name ∷ parts_at 32 last → parts_at 32 last ≡ third ∷ parts_at 32 more → mention_in (parts_at 32 text) ≡ None
+more_mentions text word after name last third more one two three =
+    let four = first_part 32 more in
+    ap mention_in (one ∙ ap (λ (ps : List (List ℕ)). word ∷ ps) (two ∙ ap (λ (ps : List (List ℕ)). name ∷ ps) (three ∙ ap (λ (ps : List (List ℕ)). third ∷ ps) four.1.1)))
 
 pub party_is_longer : (number : ℕ) (party : PartyWords) (first : List MadeLine) (k : ℕ) (below : List NumberedLine)
     → length (text_of below) ≤ length (text_of (put_party number party first k below))

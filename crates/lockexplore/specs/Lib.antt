@@ -10,6 +10,8 @@ pub mod Indices
 pub mod Copies
 pub mod Parties
 pub mod PartyParts
+pub mod Mentions
+pub mod MentionParts
 pub mod Repeats
 pub mod RepeatParts
 pub mod PlainTexts

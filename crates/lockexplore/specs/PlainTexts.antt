@@ -5,6 +5,7 @@ use Rattle.std.specs.List.{slice_split}
 use Rattle.lock_plan_answer.specs.LineNumbers.{number_in}
 use Rattle.script_text.specs.Lines.{lines_of}
 use Rattle.lockexplore.specs.Arrays.{arrayed}
+use Rattle.lockexplore.specs.Mentions.{copies_of, spread, spread_by}
 use Rattle.lockexplore.specs.Parties.{indexed}
 use Rattle.lockexplore.specs.PlainLines.{IsLongFrom, NumberedLine, text_of}
 use Rattle.lockexplore.specs.Repeats.{unrolled}
@@ -47,7 +48,7 @@ script_lines bytes = numbered_from 1 (lines_of bytes)
 
 -- the expansion of lines
 abbrev pub expanded : List NumberedLine → List NumberedLine
-expanded lines = unrolled (indexed (arrayed lines))
+expanded lines = unrolled (indexed (spread (arrayed lines)))
 
 abbrev pub plain_text : List ℕ → List ℕ
 plain_text bytes = text_of (expanded (script_lines bytes))
@@ -56,10 +57,11 @@ plain_text bytes = text_of (expanded (script_lines bytes))
 abbrev pub IsShort : List ℕ → Type 0
 IsShort bytes = length (plain_text bytes) ≤ 1048577
 
--- some of the last lines become too long by one of the three rules
+-- some of the last lines become too long by one of the four rules
 abbrev pub IsLongExpansion : List NumberedLine → Type 0
 IsLongExpansion lines =
-    IsLongFrom arrayed lines ⊎ (IsLongFrom indexed (arrayed lines) ⊎ IsLongFrom unrolled (indexed (arrayed lines)))
+    IsLongFrom arrayed lines ⊎ (IsLongFrom (spread_by (copies_of (arrayed lines))) (arrayed lines)
+    ⊎ (IsLongFrom indexed (spread (arrayed lines)) ⊎ IsLongFrom unrolled (indexed (spread (arrayed lines)))))
 
 abbrev pub IsTooLong : List ℕ → Type 0
 IsTooLong bytes = IsLongExpansion (script_lines bytes)

@@ -6,6 +6,7 @@ mod cut;
 mod indices;
 mod line_role;
 mod made;
+mod mentions;
 mod parties;
 mod party_line;
 mod party_number;
@@ -13,5 +14,6 @@ mod repeats;
 
 pub(crate) use arrays::arrayed;
 pub(crate) use made::{LinesFault, MadeLine};
+pub(crate) use mentions::spread;
 pub(crate) use parties::indexed;
 pub(crate) use repeats::unrolled;

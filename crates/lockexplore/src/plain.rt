@@ -10,7 +10,7 @@ ghost use Rattle.lockexplore.specs.declared.lines.made.LinesFault.TheVariants.{T
 ghost use Rattle.lock_plan_answer.specs.LineNumbers.{number_by};
 ghost use Rattle.script_text.specs.Lines.{lines_of};
 
-use crate::lines::{LinesFault, MadeLine, arrayed, indexed, unrolled};
+use crate::lines::{LinesFault, MadeLine, arrayed, indexed, spread, unrolled};
 use crate::no_answer::NoAnswer;
 use lock_plan_answer::LineNumbers;
 use lock_plan_text::{LineFault, PlanTextFault, explain_line};
@@ -132,7 +132,8 @@ fn expanded(alloc: Global, written: Vec<MadeLine>) -> Result<Vec<MadeLine>, Line
     ensures long { IfErr result (λ fault. fault ≡ TooLong → IsLongExpansion (map line_of written.items)) }
 {
     let each = arrayed(alloc, written)?;
-    let parties = indexed(alloc, each)?;
+    let copies = spread(alloc, each)?;
+    let parties = indexed(alloc, copies)?;
     unrolled(alloc, parties)
 }
 

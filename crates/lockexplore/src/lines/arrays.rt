@@ -72,7 +72,12 @@ impl<'a> Array<'a> {
     }
 
     /// Puts the line of each of them before the others.
-    fn push_lines(self, alloc: Global, made: &mut MadeLines, number: u64) -> Result<(), LinesFault>
+    pub(crate) fn push_lines(
+        self,
+        alloc: Global,
+        made: &mut MadeLines,
+        number: u64,
+    ) -> Result<(), LinesFault>
         ensures lines { OnOk result (made.new ≡ with_elements number (words_in self.entry) made.old) }
         ensures long { IfErr result (λ fault. fault ≡ TooLong → IsLong (with_elements number (words_in self.entry) made.old)) }
     {

@@ -128,7 +128,7 @@ fn put_copies(
 
 impl<'a> PartyLine<'a> {
     /// Returns the words of a line for several parties, or `None` for another line.
-    fn of(text: &'a [u8]) -> Option<PartyLine<'a>>
+    pub(crate) fn of(text: &'a [u8]) -> Option<PartyLine<'a>>
         ensures some { IfSome result (λ party. party_in (parts_at 32 text.now) ≡ Some (party_words party)) }
         ensures none { IfNone result (party_in (parts_at 32 text.now) ≡ None) }
     {
@@ -153,7 +153,7 @@ impl<'a> PartyLine<'a> {
 }
 
 /// Returns whether a line begins a party or several.
-fn begins_party(text: &[u8]) -> bool
+pub(crate) fn begins_party(text: &[u8]) -> bool
     ensures { result ≡ begins_party (parts_at 32 text.now) }
 {
     match cut(text, b' ') {

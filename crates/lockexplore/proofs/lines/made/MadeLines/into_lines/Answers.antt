@@ -1,4 +1,4 @@
-use Rattle.std.proofs.Common.{◌+◌, length, map, ap, ◌∙◌, arith}
+use Rattle.std.proofs.Common.{length, map, ap, ◌∙◌, arith}
 use Rattle.lockexplore.specs.PlainLines.{line_of, text_of}
 use Rattle.lockexplore.proofs.Reversed.{map-reverse}
 use Rattle.lockexplore.proofs.lines.made.MadeLines.into_lines.Goals as goal
