@@ -162,7 +162,7 @@ def read_plan(text):
 
 def expanded(lines):
     """The lines, each a number and its words, with those that are short for several expanded."""
-    found = [it for line in lines for it in rows(*line)]
+    found = for_copies([it for line in lines for it in rows(*line)])
     heads = [at for at, (_, words) in enumerate(found) if words[0] in ("party", "server")]
     parts = [found[begin:end] for begin, end in itertools.pairwise([*heads, len(found)])]
     return turns([*found[: heads[0] if heads else None], *[it for part in parts for it in by_index(part)]])
@@ -173,6 +173,19 @@ def rows(number, words):
     row = ROW.fullmatch(words[1]) if words[0] in DECLARED and len(words) > 1 else None
     count = number_of(row[2], MOST_COPIES) if row else 0
     return [(number, [words[0], f"{row[1]}.{copy}", *words[2:]]) for copy in range(1, count + 1)] or [(number, words)]
+
+
+def for_copies(lines):
+    """The lines, with one for each copy of a party in place of a line `start NAME *` or `join NAME *`."""
+    counts, found = {}, []
+    for _, words in lines:
+        if words[0] in ("party", "server") and len(words) == 3 and number_of(words[2], MOST_COPIES):
+            counts.setdefault(words[1], number_of(words[2], MOST_COPIES))
+    for number, words in lines:
+        is_for_all = words[0] in ("start", "join") and words[2:] == ["*"]
+        count = counts.get(words[1], 0) if is_for_all else 0
+        found += [(number, [words[0], f"{words[1]}.{copy}"]) for copy in range(1, count + 1)] or [(number, words)]
+    return found
 
 
 def by_index(lines):

@@ -25,13 +25,13 @@ CHANGES = {
 # texts and lines with which a plan may become wrong
 SPOILS = [
     "", " ", "\n", "x", "0", "\r", "\u00e9", " bar", " fair", "4294967296", "lock0", "party p1\n", "server p 2\n", "mutex lock0\n",
-    "end\n", " not", " until flag0", " true", "flag flag0\n", "condvar cond0\n", "start p1\n", " or timeout", "[i]", "[i+1]", "[2]", " 2",
+    "end\n", " not", " until flag0", " true", "flag flag0\n", "condvar cond0\n", "start p1\n", " or timeout", " *", "[i]", "[i+1]", "[2]", " 2",
     "repeat 2\n", "leave\n", "return\n",
 ]
 STRAY_BLOCKS = ["repeat", "either", "else", "or", "end", "forever", "repeat 2", "leave", "return"]
 STRAY_SIGNALS = [
     "set flag0", "if flag0", "if not flag0", "wait cond0 lock0", "start p1", "join p9", "notify_all cond0", "assert flag0", "repeat until flag0",
-    "wait cond0 lock0 until flag0 or timeout",
+    "wait cond0 lock0 until flag0 or timeout", "start p2 *", "join p1 *",
 ]
 ACQUISITIONS = [("read", "shared"), ("read", "shared"), ("write", "exclusive"), ("upgradable_read", "upgradable")]
 ANY_CALL = ["lock", "announce", *(word for word, _ in ACQUISITIONS)]
@@ -105,7 +105,9 @@ def random_signals(rng, lines, kinds, heads):
     condvars = [f"cond{it}" for it in range(rng.choice([0, 1, 1, 2]))]
     lines += [f"flag {it}{rng.choice(['', '', ' true'])}" for it in flags] + [f"condvar {it}" for it in condvars]
     parties = [name for _, names in heads for name in names]
-    return Signals(flags, condvars, parties, {it for it in parties if rng.random() < 0.4})
+    unstarted = {it for it in parties if rng.random() < 0.4}
+    unstarted |= {name for _, names in heads if len(names) > 1 and rng.random() < 0.3 for name in names}
+    return Signals(flags, condvars, parties, unstarted)
 
 
 def chain_lines(rng, signals, number):
@@ -182,9 +184,10 @@ class Maker(NamedTuple):
             found, held = self.lines([], most)
         if self.signals and len(names) == 1:
             for name in sorted(self.signals.unstarted - {*names}):
-                if self.rng.random() < 0.7:
-                    self.signals.unstarted.remove(name)
-                    found.insert(self.at_top(found), f"start {name}")
+                if name in self.signals.unstarted and self.rng.random() < 0.7:
+                    started, line = self.started(name)
+                    self.signals.unstarted.difference_update(started)
+                    found.insert(self.at_top(found), line)
         if self.is_ordered or self.rng.random() < 0.7:
             found += self.releases_of(held)
             if self.has_blocks and len(found) < 6 and self.rng.random() < 0.3:
@@ -228,6 +231,21 @@ class Maker(NamedTuple):
             found.append(f"{word} {lock}")
         return found, own
 
+    def started(self, name):
+        """Names of parties that a line starts, this one and perhaps all other copies, and the line."""
+        copies = self.copies_with(name)
+        is_for_all = len(copies) > 1 and self.signals.unstarted.issuperset(copies) and self.rng.random() < 0.7
+        return (copies, f"start {name.partition('.')[0]} *") if is_for_all else ([name], f"start {name}")
+
+    def copies_with(self, name):
+        """The names of the copies of which one has this name."""
+        return [it for it in self.signals.parties if it.partition(".")[0] == name.partition(".")[0]]
+
+    def join(self):
+        """A line that joins a party, or all copies of one."""
+        name = self.rng.choice(self.signals.parties)
+        return f"join {name.partition('.')[0]} *" if "." in name and self.rng.random() < 0.4 else f"join {name}"
+
     def at_top(self, lines):
         """A place in the lines at which no loop is open."""
         depths = [0]
@@ -238,7 +256,7 @@ class Maker(NamedTuple):
     def signal(self, held):
         """A line of a party with these holds that calls no lock, or a wait, or no line."""
         rng, signals = self.rng, self.signals
-        found = [f"join {rng.choice(signals.parties)}"] if rng.random() < 0.3 else []
+        found = [self.join()] if rng.random() < 0.3 else []
         flag = rng.choice(signals.flags) if signals.flags else None
         if flag:
             found += [f"{rng.choice(['set', 'set', 'set', 'clear', 'assert', 'assert not'])} {flag}"]
@@ -248,7 +266,7 @@ class Maker(NamedTuple):
             until = f" until {rng.choice(['', '', 'not '])}{flag}" if flag and rng.random() < 0.7 else ""
             until += rng.choice(["", "", " or timeout"])
             found += 2 * [f"wait {condvar} {lock}{until}" for lock, mode in held if self.kinds[lock] == "mutex" or rng.random() < 0.02]
-        return [rng.choice(found)] if found else [f"join {rng.choice(signals.parties)}"]
+        return [rng.choice(found)] if found else [self.join()]
 
     def block(self, held):
         """A block of a party with these holds, which has the same ones after it."""
