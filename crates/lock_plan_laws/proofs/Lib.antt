@@ -16,8 +16,6 @@ pub mod Fits
 pub mod StillCircles
 pub mod CircleRuns
 pub mod MachineStops
-pub mod ShortWalks
-pub mod Traces
 pub mod CoveredStands
 pub mod Exclusion
 pub mod CoveredWorlds

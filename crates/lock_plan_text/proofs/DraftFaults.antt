@@ -71,7 +71,7 @@ pub order_told : (draft : Draft) (programs : List (List ProgramPlace)) (fault : 
 order_told draft programs fault told known begun made (inr out) is = plan_told draft programs fault told known begun made (inr out) is
 order_told draft programs fault told known begun made (inl wrong) is =
     plan_told draft programs fault told known begun made
-    (inl (ap (λ (o : Option PlanFault). or_fault o (if nat_lt (size (all_views draft.locks programs)) (2 ^ 64) then None else Some plan.TooLarge)) wrong))
+    (inl (ap (λ (o : Option PlanFault). or_fault o (if nat_lt (size (all_views draft.locks programs)) (2 ^ 128) then None else Some plan.TooLarge)) wrong))
     is
 
 -- what follows from each value

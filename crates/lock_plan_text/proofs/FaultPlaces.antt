@@ -76,7 +76,7 @@ plan_place : (locks : List PlanLock) (p k : ℕ) (programs : List (List ProgramP
 plan_place locks p k programs why is =
     elim (either (parties_fault locks 0 programs) _ (plan.Call p k why) is) [
       | inl found ↦ programs_place locks 0 p k programs why found
-      | inr large ↦ absurd (not_large (nat_lt (size (all_views locks programs)) (2 ^ 64)) p k why large)
+      | inr large ↦ absurd (not_large (nat_lt (size (all_views locks programs)) (2 ^ 128)) p k why large)
     ]
 
 -- a flag's program has no fault

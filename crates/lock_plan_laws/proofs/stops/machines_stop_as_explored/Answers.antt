@@ -3,7 +3,6 @@ use Rattle.lock_plan.specs.Stops.{programs_of}
 use Rattle.lock_plan_laws.specs.Bridge.{FitsMachines}
 use Rattle.lock_plan_laws.proofs.Fits.{fits}
 use Rattle.lock_plan_laws.proofs.MachineStops.{no_deadlocks, never, shortest}
-use Rattle.lock_plan_laws.proofs.Traces.{trace_fits}
 use Rattle.lock_plan_laws.proofs.stops.machines_stop_as_explored.Goals as goal
 
 pub returns : goal.returns
@@ -15,7 +14,6 @@ returns g c =
       none = λ none.
           never g.O.Op.meaning plan.servers.items plan.locks.items (programs_of plan) fit
           (no_deadlocks plan.servers.items plan.locks.items (programs_of plan) none);
-      stop = λ plain trace stop.
-          shortest g.O.Op.meaning plan.servers.items plan.locks.items (programs_of plan) fit plain trace
-          (trace_fits plan.servers.items plan.locks.items (programs_of plan) plan.right trace stop) stop;
+      stop = λ plain trace few stop.
+          shortest g.O.Op.meaning plan.servers.items plan.locks.items (programs_of plan) fit plain trace few stop;
     }
