@@ -21,9 +21,9 @@ pub(crate) enum Row {
     /// The names of the parties.
     Parties,
     /// What the parties hold at a node, after a step of this party.
-    After(usize, usize),
+    After(u128, usize),
     /// What the parties wait for at a node.
-    Stop(usize),
+    Stop(u128),
 }
 
 /// Appends the cell of a party.
@@ -46,7 +46,7 @@ pub(crate) fn write_cell(
 fn write_step_cell(
     text: &mut String,
     source: &Source,
-    node: usize,
+    node: u128,
     mover: usize,
     party: usize,
 ) -> Result<(), AllocError>
@@ -94,7 +94,7 @@ fn write_sleep(text: &mut String, names: &Names, sleep: Option<usize>) -> Result
 }
 
 /// Returns which locks a party holds at a node, and in which modes.
-fn locks_held(source: &Source, node: usize, party: usize) -> Result<Vec<Marked>, AllocError>
+fn locks_held(source: &Source, node: u128, party: usize) -> Result<Vec<Marked>, AllocError>
     ensures { IfOk result (λ marks. marks.items
         ≡ locks_held (get_or (world_of source.now.plan.now node) party no_stand).holds (length source.now.plan.now.locks.items)) }
 {
@@ -114,7 +114,7 @@ fn locks_held(source: &Source, node: usize, party: usize) -> Result<Vec<Marked>,
 fn write_stop_cell(
     text: &mut String,
     source: &Source,
-    node: usize,
+    node: u128,
     party: usize,
 ) -> Result<(), AllocError>
     ensures { OnOk result (string_bytes text.new ≡ string_bytes text.old

@@ -20,7 +20,7 @@ pub enum LineMark<'a> {
 pub(crate) fn write_mark(
     text: &mut String,
     plan: &Plan,
-    node: usize,
+    node: u128,
     row: usize,
     mark: LineMark,
 ) -> Result<(), AllocError>

@@ -45,7 +45,7 @@ pub fn draw_picture(
 pub(crate) struct Run {
     steps: Vec<Made>,
     /// The node after the last step.
-    last: usize,
+    last: u128,
 }
 
 impl Run {
@@ -65,7 +65,7 @@ impl Run {
     }
 
     /// The node at a row. Row 0 is before the first step.
-    pub(crate) fn node(&self, row: usize) -> usize {
+    pub(crate) fn node(&self, row: usize) -> u128 {
         match self.steps.get(row) {
             Some(made) => made.before,
             None => self.last,

@@ -49,7 +49,7 @@ fn turn_text(other: bool) -> &'static str
 pub(crate) fn write_signal(
     text: &mut String,
     source: &Source,
-    node: usize,
+    node: u128,
     way: usize,
     signal: Signal,
 ) -> Result<(), AllocError>
@@ -128,7 +128,7 @@ fn woken(alloc: Global, way: usize) -> Result<Vec<usize>, AllocError>
 }
 
 /// Returns the rows that sleep on a condition variable at a node, in order.
-fn sleepers(source: &Source, node: usize, cond: usize) -> Result<Vec<usize>, AllocError>
+fn sleepers(source: &Source, node: u128, cond: usize) -> Result<Vec<usize>, AllocError>
     ensures { IfOk result (λ rows. rows.items ≡ sleepers (world_of source.now.plan.now node) cond) }
 {
     let mut rows = Vec::new(source.alloc);

@@ -11,7 +11,7 @@ use lock_plan::{Act, Block, Plan, Signal, Turn};
 use std::alloc::{AllocError, Global};
 
 /// Returns the place of a row.
-pub(crate) fn place_at(plan: &Plan, node: usize, row: usize) -> usize
+pub(crate) fn place_at(plan: &Plan, node: u128, row: usize) -> usize
     ensures { result ≡ (get_or (world_of plan.now node) row no_stand).place }
 {
     if row >= plan.parties() {
@@ -21,7 +21,7 @@ pub(crate) fn place_at(plan: &Plan, node: usize, row: usize) -> usize
 }
 
 /// Returns the next act of a row, or `None` where it has ended.
-pub(crate) fn act_at(plan: &Plan, node: usize, row: usize) -> Option<Act>
+pub(crate) fn act_at(plan: &Plan, node: u128, row: usize) -> Option<Act>
     ensures { result ≡ act_at (world_of plan.now node) row }
 {
     if row >= plan.parties() {
@@ -34,7 +34,7 @@ pub(crate) fn act_at(plan: &Plan, node: usize, row: usize) -> Option<Act>
 pub(crate) fn turn_at(
     alloc: Global,
     plan: &Plan,
-    node: usize,
+    node: u128,
     row: usize,
 ) -> Result<Option<Turn>, AllocError>
     ensures { IfOk result (λ turn. turn ≡ turn_of plan.now.locks.items (world_of plan.now node) row) }
@@ -49,7 +49,7 @@ pub(crate) fn turn_at(
 pub(crate) fn is_stopped(
     alloc: Global,
     plan: &Plan,
-    node: usize,
+    node: u128,
     row: usize,
 ) -> Result<bool, AllocError>
     ensures { IfOk result (λ stopped. stopped ≡ is_some (stopped_at plan.now.locks.items (world_of plan.now node) row)) }
@@ -62,7 +62,7 @@ pub(crate) fn is_stopped(
 }
 
 /// Returns what a row holds of a lock.
-pub(crate) fn hold_at(plan: &Plan, node: usize, row: usize, lock: usize) -> Hold
+pub(crate) fn hold_at(plan: &Plan, node: u128, row: usize, lock: usize) -> Hold
     ensures { result ≡ get_or (get_or (world_of plan.now node) row no_stand).holds lock no_hold }
 {
     if row >= plan.parties() {
@@ -72,7 +72,7 @@ pub(crate) fn hold_at(plan: &Plan, node: usize, row: usize, lock: usize) -> Hold
 }
 
 /// Returns the condition variable on which a row sleeps.
-pub(crate) fn sleep_of(plan: &Plan, node: usize, row: usize) -> Option<usize>
+pub(crate) fn sleep_of(plan: &Plan, node: u128, row: usize) -> Option<usize>
     ensures { result ≡ sleep_of (world_of plan.now node) row }
 {
     cond_of(act_at(plan, node, row))

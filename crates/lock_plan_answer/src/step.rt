@@ -21,8 +21,8 @@ use std::alloc::{AllocError, Global};
 #[derive(Clone, Copy)]
 pub(crate) struct Made {
     pub(crate) step: Step,
-    pub(crate) before: usize,
-    pub(crate) after: usize,
+    pub(crate) before: u128,
+    pub(crate) after: u128,
 }
 
 /// Appends the steps of a trace, a line each, with the mark before it. Returns the node after them.
@@ -31,7 +31,7 @@ pub(crate) fn write_steps(
     source: &Source,
     trace: &[Step],
     mark: LineMark,
-) -> Result<usize, AllocError>
+) -> Result<u128, AllocError>
     ensures text { OnOk result (string_bytes text.new ≡ string_bytes text.old
         ++ steps_text (mark_by mark.entry) source.now.plan.now.locks.items source.now.names.now (first_world source.now.plan.now.locks.items (programs_of source.now.plan.now)) trace.now) }
     ensures node { IfOk result (λ node. world_of source.now.plan.now node
@@ -55,9 +55,9 @@ pub(crate) fn write_steps(
 pub(crate) fn stepped(
     alloc: Global,
     plan: &Plan,
-    node: usize,
+    node: u128,
     step: Step,
-) -> Result<usize, AllocError>
+) -> Result<u128, AllocError>
     requires { node < plan.now.nodes }
     ensures world { IfOk result (λ after.
         world_of plan.now after ≡ stepped plan.now.locks.items (world_of plan.now node) step) }

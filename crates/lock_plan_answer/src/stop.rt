@@ -53,7 +53,7 @@ fn is_refused_call(stopped: Stopped) -> bool
 pub(crate) fn write_stop_lines(
     text: &mut String,
     source: &Source,
-    node: usize,
+    node: u128,
     list: &[Stopped],
     mark: LineMark,
 ) -> Result<(), AllocError>
@@ -70,7 +70,7 @@ pub(crate) fn write_stop_lines(
 fn write_stopped(
     text: &mut String,
     source: &Source,
-    node: usize,
+    node: u128,
     stopped: &Stopped,
     mark: LineMark,
 ) -> Result<(), AllocError>
@@ -123,12 +123,7 @@ pub(crate) fn write_awaited(text: &mut String, source: &Source, act: Act) -> Res
 }
 
 /// Appends who holds the lock of a call at a node.
-fn write_holders(
-    text: &mut String,
-    source: &Source,
-    node: usize,
-    act: Act,
-) -> Result<(), AllocError>
+fn write_holders(text: &mut String, source: &Source, node: u128, act: Act) -> Result<(), AllocError>
     ensures { OnOk result (string_bytes text.new ≡ string_bytes text.old
         ++ holders_text source.now.plan.now.locks.items source.now.names.now (world_of source.now.plan.now node) act) }
 {

@@ -93,7 +93,7 @@ pub(crate) fn draw_waits(
 fn edges_of(
     source: &Source,
     parties: usize,
-    node: usize,
+    node: u128,
     list: &[Stopped],
 ) -> Result<Vec<Edge>, AllocError> {
     let mut edges = Vec::new(source.alloc);
@@ -123,7 +123,7 @@ fn edges_of(
 fn add_holders(
     edges: &mut Vec<Edge>,
     source: &Source,
-    node: usize,
+    node: u128,
     waiter: usize,
     lock: usize,
 ) -> Result<(), AllocError> {
