@@ -45,7 +45,7 @@ ROW = re.compile(r"([^[]*)\[([0-9]+)\]")
 INDEX = re.compile(r"([^[]*)\[i(?:\+([1-9]|[1-5][0-9]|6[0-4]))?\]")
 LARGEST_LIMIT = 2**32 - 1
 LONGEST_INPUT = 2**20
-MOST_NUMBERED = 2**64 - 1
+MOST_NUMBERED = 2**128 - 1
 MOST_COPIES = 64
 MOST_OPEN = 64
 
