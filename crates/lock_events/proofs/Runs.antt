@@ -2,6 +2,7 @@
 use Rattle.std.proofs.Common.{◌≡◌, ◌≢◌, ℕ, zero, suc, ◌+◌, ◌-◌, ◌%◌, ◌<◌, ◌≤◌, Bool, true, false, not, ◌==◌, nat_lt, List, [], ◌∷◌, ◌++◌, length, slice_get, slice_set, Option, Some, None, if◌then◌else◌, ◌⊎◌, inl, inr, IsTrue, refl, sym, ap, subst, ◌∙◌, arith, length-append}
 use Rattle.std.specs.Prelude.{⊤}
 use Rattle.std.proofs.lemmas.Bool.{eqb-true, eqb-false, ltb-true, ltb-false, false≢true, cases_eq, cases_lt}
+use Rattle.std.proofs.lemmas.List.{length-set}
 use Rattle.std.proofs.lemmas.Option.{same_Some, slice_get_within}
 use Rattle.lock_events.specs.declared.action.EventAction.TheVariants as action
 use Rattle.lock_events.specs.declared.action.EventPlace.TheVariants.{Count, Epoch}
@@ -101,11 +102,6 @@ two_count (x ∷ xs) (suc i) zero b c apart e f =
 two_count (x ∷ xs) (suc i) (suc j) b c apart e f =
     let h = two_count xs i j b c (λ same. apart (ap suc same)) e f in omega arith
 
-length_set : {A : Type 0} (xs : List A) (k : ℕ) (y : A) → length (slice_set xs k y) ≡ length xs
-length_set [] k y = refl
-length_set (x ∷ xs) zero y = refl
-length_set (x ∷ xs) (suc k) y = ap suc (length_set xs k y)
-
 -- a registered wait is counted
 registered_counts : (at : EventStage) → IsTrue (is_registered at) → count_at at ≡ 1
 registered_counts stage.Unlock is = refl
@@ -189,7 +185,7 @@ module _ (s : EventsInUse) (h : IsKept s) (k : ℕ) (b : Begun) (at : slice_get 
   new_wait c w by n note inn registered early less =
       elim (by.registers registered) [
         | inl now ↦
-            absurd (let within = slice_get_within (slice_set s.calls k c) n note inn in let same = length_set s.calls k c in omega arith)
+            absurd (let within = slice_get_within (slice_set s.calls k c) n note inn in let same = length-set s.calls k c in omega arith)
         | inr was ↦
             subst (λ m. Reaches w.epoch m note.call) (sym was.1)
             (with_old_wait c w by k n b note at inn was.0 (subst (λ m. m < last_epoch) was.1 early) (subst (λ m. m ≤ n) was.2 less))
@@ -200,7 +196,7 @@ module _ (s : EventsInUse) (h : IsKept s) (k : ℕ) (b : Begun) (at : slice_get 
       let sums = sum_set s.calls k b c at in
       let before = h.counted in
       let counts = by.counts in
-      let same : length (slice_set s.calls k c) ≡ length s.calls = length_set s.calls k c in
+      let same : length (slice_set s.calls k c) ≡ length s.calls = length-set s.calls k c in
       record {
         counted = omega arith;
         fits = by.fits;
