@@ -1,3 +1,4 @@
+mod FlagLooks
 mod Lands
 mod LastFields
 mod LoopDepths

@@ -21,9 +21,11 @@ use Rattle.lock_plan_lines.specs.declared.text_line.NamedWord.TheVariants as nam
 use Rattle.lock_plan_lines.specs.declared.text_line.PlanLine.TheVariants.{Lock, Flag, Party, Call, Named}
 use Rattle.lock_plan_lines.specs.declared.text_line.TextLine.{TextLine}
 use Rattle.lock_plan_lines.specs.declared.text_line.TextLine.TheVariants as text
+use Rattle.lock_plan_lines.specs.declared.text_line.Looks.{Looks}
 use Rattle.lock_plan_lines.specs.declared.text_line.WaitLine.{WaitLine}
 use Rattle.lock_plan_lines.specs.declared.text_line.WaitLine.TheVariants as wait
-use Rattle.lock_plan_lines.specs.PlanLines.{IsFlagField, IsNamed, IsOneName, IsTextLine, TextNames, block_word, has_flag, text_fields, IsCopies, IsLineLock, IsPlanLine, IsVerb, manner_fields, copy_fields, first_fields, kind_word, last_fields, limit_fields, line_word, look_fields, timeout_fields, named_word, one_name, party_word, plan_fields, until_fields}
+use Rattle.lock_plan_lines.specs.PlanLines.{AreWaitFlags, IsLoopNames, IsNamed, IsOneName, IsTextLine, TextNames, block_word, loop_names, looks_fields, text_fields, IsCopies, IsLineLock, IsPlanLine, IsVerb, manner_fields, copy_fields, first_fields, kind_word, last_fields, limit_fields, line_word, look_fields, timeout_fields, named_word, one_name, party_word, plan_fields, until_fields}
+use Rattle.lock_plan_lines.proofs.FlagLooks.{no_timed_looks, same_look, same_looks, same_timed_looks}
 
 -- a line without the limit of its lock, the value of its flag or the count of its parties
 abbrev of_kind : Kind → PlanLine
@@ -249,11 +251,16 @@ one_verb is_rwlock for_rwlock step other ok good words =
     = sym (step_by_word is_rwlock step ok) ∙ (ap by_word words ∙ step_by_word for_rwlock other good) in
     (cc, cc)
 
-same_names : (a b : TextNames) → a.name ≡ b.name → a.mutex ≡ b.mutex → a.flag ≡ b.flag → a ≡ b
-same_names a b name mutex flag =
-    ap (λ (n : List ℕ). record { name = n; mutex = a.mutex; flag = a.flag }) name
-    ∙ ap (λ (m : List ℕ). record { name = b.name; mutex = m; flag = a.flag }) mutex
-    ∙ ap (λ (f : List ℕ). record { name = b.name; mutex = b.mutex; flag = f }) flag
+same_names : (a b : TextNames) → a.name ≡ b.name → a.mutex ≡ b.mutex → a.flag ≡ b.flag → a.other ≡ b.other → a ≡ b
+same_names a b name mutex flag other =
+    ap (λ (n : List ℕ). record { name = n; mutex = a.mutex; flag = a.flag; other = a.other }) name
+    ∙ ap (λ (m : List ℕ). record { name = b.name; mutex = m; flag = a.flag; other = a.other }) mutex
+    ∙ ap (λ (f : List ℕ). record { name = b.name; mutex = b.mutex; flag = f; other = a.other }) flag
+    ∙ ap (λ (o : List ℕ). record { name = b.name; mutex = b.mutex; flag = b.flag; other = o }) other
+
+same_loop : (looks others : Looks) (a b : TextNames) → IsLoopNames looks a → IsLoopNames others b → a.name ≡ b.name → a.other ≡ b.other → a ≡ b
+same_loop looks others a b one other name last =
+    one.1 ∙ ap (λ (n : List ℕ). loop_names n a.other) name ∙ ap (loop_names b.name) last ∙ sym other.1
 
 same_one : (a b : TextNames) → IsOneName a → IsOneName b → a.name ≡ b.name → a ≡ b
 same_one a b one other name = one.1 ∙ ap one_name name ∙ sym other.1
@@ -276,51 +283,30 @@ first_word fields =
     (cond (bytes_eq word (codes "until")) 6
     (cond (bytes_eq word (codes "if")) 7 0))))))
 
-same_look : (value other : Bool) (flag another : List ℕ) → look_fields value flag ≡ look_fields other another
-    → (value ≡ other) × (flag ≡ another)
-same_look true true flag another same = (refl, cc)
-same_look false false flag another same = (refl, cc)
-same_look true false flag another same = cc
-same_look false true flag another same = cc
-
 some_look : (value : Bool) (flag : List ℕ) → [] ≡ look_fields value flag → ⊥
 some_look true flag is = cc
 some_look false flag is = cc
 
-same_timed : (value other : Bool) (flag another : List ℕ)
-    → look_fields value flag ++ timeout_fields ≡ look_fields other another ++ timeout_fields → (value ≡ other) × (flag ≡ another)
-same_timed true true flag another same = (refl, cc)
-same_timed false false flag another same = (refl, cc)
-same_timed true false flag another same = cc
-same_timed false true flag another same = cc
-
--- one field or two, and three or four
-no_time : (value other : Bool) (flag another : List ℕ) → look_fields value flag ≡ look_fields other another ++ timeout_fields → ⊥
-no_time true true flag another same = cc
-no_time true false flag another same = cc
-no_time false true flag another same = cc
-no_time false false flag another same = cc
-
-same_until : (wait other : WaitLine) (flag another : List ℕ) → IsFlagField (has_flag wait) flag → IsFlagField (has_flag other) another
-    → until_fields wait flag ≡ until_fields other another → (wait ≡ other) × (flag ≡ another)
-same_until wait.Once wait.Once flag another ok good same = (refl, ok ∙ sym good)
-same_until (wait.Until value) (wait.Until other) flag another ok good same =
-    let looks : look_fields value flag ≡ look_fields other another = cc in
-    let both = same_look value other flag another looks in
+same_until : (wait other : WaitLine) (flag last another more : List ℕ) → AreWaitFlags wait flag last → AreWaitFlags other another more
+    → until_fields wait flag last ≡ until_fields other another more → (wait ≡ other) × ((flag ≡ another) × (last ≡ more))
+same_until wait.Once wait.Once flag last another more ok good same = (refl, (ok.0 ∙ sym good.0, ok.1 ∙ sym good.1))
+same_until (wait.Until looks) (wait.Until others) flag last another more ok good same =
+    let fields : looks_fields looks flag last ≡ looks_fields others another more = cc in
+    let both = same_looks looks others flag last another more ok good fields in
     (ap wait.Until both.0, both.1)
-same_until wait.OrTimeout wait.OrTimeout flag another ok good same = (refl, ok ∙ sym good)
-same_until (wait.UntilOrTimeout value) (wait.UntilOrTimeout other) flag another ok good same =
-    let looks : look_fields value flag ++ timeout_fields ≡ look_fields other another ++ timeout_fields = cc in
-    let both = same_timed value other flag another looks in
+same_until wait.OrTimeout wait.OrTimeout flag last another more ok good same = (refl, (ok.0 ∙ sym good.0, ok.1 ∙ sym good.1))
+same_until (wait.UntilOrTimeout looks) (wait.UntilOrTimeout others) flag last another more ok good same =
+    let fields : looks_fields looks flag last ++ timeout_fields ≡ looks_fields others another more ++ timeout_fields = cc in
+    let both = same_timed_looks looks others flag last another more ok good fields in
     (ap wait.UntilOrTimeout both.0, both.1)
-same_until (wait.Until value) (wait.UntilOrTimeout other) flag another ok good same =
-    let looks : look_fields value flag ≡ look_fields other another ++ timeout_fields = cc in
-    absurd (no_time value other flag another looks)
-same_until (wait.UntilOrTimeout value) (wait.Until other) flag another ok good same =
-    let looks : look_fields other another ≡ look_fields value flag ++ timeout_fields = cc in
-    absurd (no_time other value another flag looks)
-same_until wait other flag another ok good same =
-    let words : first_word (until_fields wait flag) ≡ first_word (until_fields other another) = ap first_word same in cc
+same_until (wait.Until looks) (wait.UntilOrTimeout others) flag last another more ok good same =
+    let fields : looks_fields looks flag last ≡ looks_fields others another more ++ timeout_fields = cc in
+    absurd (no_timed_looks looks others flag last another more ok good fields)
+same_until (wait.UntilOrTimeout looks) (wait.Until others) flag last another more ok good same =
+    let fields : looks_fields others another more ≡ looks_fields looks flag last ++ timeout_fields = cc in
+    absurd (no_timed_looks others looks another more flag last good ok fields)
+same_until wait other flag last another more ok good same =
+    let words : first_word (until_fields wait flag last) ≡ first_word (until_fields other another more) = ap first_word same in cc
 
 pub one_line : (line other : TextLine) (names others : TextNames) → IsTextLine line → IsTextLine other → IsNamed line names
     → IsNamed other others → text_fields line names ≡ text_fields other others → (line ≡ other) × (names ≡ others)
@@ -343,10 +329,10 @@ one_line (text.If value) (text.If other) names others ok good named called same 
     let looks : look_fields value names.name ≡ look_fields other others.name = cc in
     let both = same_look value other names.name others.name looks in
     (ap text.If both.0, same_one names others named called both.1)
-one_line (text.Until value) (text.Until other) names others ok good named called same =
-    let looks : look_fields value names.name ≡ look_fields other others.name = cc in
-    let both = same_look value other names.name others.name looks in
-    (ap text.Until both.0, same_one names others named called both.1)
+one_line (text.Until looks) (text.Until more) names others ok good named called same =
+    let fields : looks_fields looks names.name names.other ≡ looks_fields more others.name others.other = cc in
+    let both = same_looks looks more names.name names.other others.name others.other named.0 called.0 fields in
+    (ap text.Until both.0, same_loop looks more names others named called both.1.0 both.1.1)
 one_line (text.Assert value) (text.Assert other) names others ok good named called same =
     let looks : look_fields value names.name ≡ look_fields other others.name = cc in
     let both = same_look value other names.name others.name looks in
@@ -354,9 +340,9 @@ one_line (text.Assert value) (text.Assert other) names others ok good named call
 one_line (text.Wait wait) (text.Wait other) names others ok good named called same =
     let name : names.name ≡ others.name = cc in
     let mutex : names.mutex ≡ others.mutex = cc in
-    let last : until_fields wait names.flag ≡ until_fields other others.flag = cc in
-    let both = same_until wait other names.flag others.flag named.1.1 called.1.1 last in
-    (ap text.Wait both.0, same_names names others name mutex both.1)
+    let last : until_fields wait names.flag names.other ≡ until_fields other others.flag others.other = cc in
+    let both = same_until wait other names.flag names.other others.flag others.other named.1.1 called.1.1 last in
+    (ap text.Wait both.0, same_names names others name mutex both.1.0 both.1.1)
 one_line (text.Word word) (text.Word other) names others ok good named called same =
     let words : block_word word ≡ block_word other = cc in
     (ap text.Word (same_words word other words), named ∙ sym called)

@@ -1,5 +1,5 @@
 -- The lines of a plan: each is given by the fields that it prints as.
-use Rattle.std.specs.Prelude.{◌≡◌, ℕ, ◌<◌, ◌≤◌, Bool, true, false, ◌&&◌, ◌||◌, ◌==◌, nat_lt, IsTrue, List, [], ◌∷◌, ◌++◌, length, codes, decimal}
+use Rattle.std.specs.Prelude.{◌≡◌, ℕ, ◌<◌, ◌≤◌, Bool, true, false, ◌&&◌, ◌||◌, ◌==◌, not, nat_lt, bytes_eq, IsTrue, List, [], ◌∷◌, ◌++◌, length, codes, decimal}
 use Rattle.std.specs.Bool.{⊤}
 use Rattle.std.specs.Char.{is_ascii_alphanumeric}
 use Rattle.std.specs.List.{list_all}
@@ -16,6 +16,8 @@ use Rattle.lock_plan_lines.specs.Words.{step_word}
 use Rattle.lock_plan_lines.specs.declared.block_line.BlockWord.{BlockWord}
 use Rattle.lock_plan_lines.specs.declared.block_line.BlockWord.TheVariants.{Repeat, Forever, Either, Else, Or, End, Leave, Return}
 use Rattle.lock_plan_lines.specs.declared.name.LineNames.{LineNames}
+use Rattle.lock_plan_lines.specs.declared.text_line.Looks.{Looks}
+use Rattle.lock_plan_lines.specs.declared.text_line.Looks.TheVariants as looks
 use Rattle.lock_plan_lines.specs.declared.text_line.NamedWord.{NamedWord}
 use Rattle.lock_plan_lines.specs.declared.text_line.NamedWord.TheVariants.{Condvar, Set, Clear, NotifyOne, NotifyAll, Start, Join}
 use Rattle.lock_plan_lines.specs.declared.text_line.Parties.{Parties}
@@ -35,6 +37,11 @@ is_name_byte b = is_ascii_alphanumeric b || ((b == 95) || ((b == 45) || (b == 46
 -- a name has these bytes, and is not empty
 abbrev pub is_name : List ℕ → Bool
 is_name name = nat_lt 0 (length name) && list_all is_name_byte name
+
+-- the name of one of two flags is none of the words that stand before and between them
+abbrev pub is_flag_word : List ℕ → Bool
+is_flag_word name =
+    is_name name && not (bytes_eq name (codes "not") || (bytes_eq name (codes "or") || bytes_eq name (codes "timeout")))
 
 abbrev pub kind_word : Kind → List ℕ
 kind_word Mutex = codes "mutex"
@@ -143,39 +150,49 @@ block_word End = codes "end"
 block_word Leave = codes "leave"
 block_word Return = codes "return"
 
--- the names of a line: that of a lock, a party, a flag or a condition variable, and those of the mutex and the flag of a wait;
--- a name that a line does not have is empty
+-- the names of a line: that of a lock, a party, a flag or a condition variable, those of the mutex and the flag of a wait, and
+-- that of the second flag of a loop or a wait; a name that a line does not have is empty
 pub record TextNames : Type 0 where
   pub name : List ℕ
   pub mutex : List ℕ
   pub flag : List ℕ
+  pub other : List ℕ
+
+-- the names of a loop with these flags
+abbrev pub loop_names : List ℕ → List ℕ → TextNames
+loop_names flag other = record { name = flag; mutex = []; flag = []; other = other }
 
 abbrev pub one_name : List ℕ → TextNames
-one_name name = record { name = name; mutex = []; flag = [] }
+one_name name = loop_names name []
 
 abbrev pub no_names : TextNames
 no_names = one_name []
 
 abbrev pub names_of : LineNames → TextNames
-names_of names = record { name = names.name.now; mutex = names.mutex.now; flag = names.flag.now }
+names_of names = record { name = names.name.now; mutex = names.mutex.now; flag = names.flag.now; other = names.other.now }
 
 -- the fields of a flag that is to have a value
 abbrev pub look_fields : Bool → List ℕ → List (List ℕ)
 look_fields true flag = flag ∷ []
 look_fields false flag = codes "not" ∷ flag ∷ []
 
+-- the fields of the flags at which a party leaves a loop
+abbrev pub looks_fields : Looks → List ℕ → List ℕ → List (List ℕ)
+looks_fields (looks.One value) flag other = look_fields value flag
+looks_fields (looks.Two value second) flag other = look_fields value flag ++ codes "or" ∷ look_fields second other
+
 abbrev pub timeout_fields : List (List ℕ)
 timeout_fields = codes "or" ∷ codes "timeout" ∷ []
 
 -- the fields of a wait after the name of its mutex
-abbrev pub until_fields : WaitLine → List ℕ → List (List ℕ)
-until_fields wait.Once flag = []
-until_fields (wait.Until value) flag = codes "until" ∷ look_fields value flag
-until_fields wait.OrTimeout flag = timeout_fields
-until_fields (wait.UntilOrTimeout value) flag = codes "until" ∷ (look_fields value flag ++ timeout_fields)
+abbrev pub until_fields : WaitLine → List ℕ → List ℕ → List (List ℕ)
+until_fields wait.Once flag other = []
+until_fields (wait.Until looks) flag other = codes "until" ∷ looks_fields looks flag other
+until_fields wait.OrTimeout flag other = timeout_fields
+until_fields (wait.UntilOrTimeout looks) flag other = codes "until" ∷ (looks_fields looks flag other ++ timeout_fields)
 
 abbrev pub wait_fields : WaitLine → TextNames → List (List ℕ)
-wait_fields wait names = names.name ∷ names.mutex ∷ until_fields wait names.flag
+wait_fields wait names = names.name ∷ names.mutex ∷ until_fields wait names.flag names.other
 
 -- the fields of a line of the text
 abbrev pub text_fields : TextLine → TextNames → List (List ℕ)
@@ -183,7 +200,7 @@ text_fields (Plan line) names = plan_fields line names.name
 text_fields (Try is_rwlock step) names = codes "try" ∷ step_word is_rwlock step ∷ names.name ∷ []
 text_fields (Word word) names = block_word word ∷ []
 text_fields (If value) names = codes "if" ∷ look_fields value names.name
-text_fields (Until value) names = codes "repeat" ∷ codes "until" ∷ look_fields value names.name
+text_fields (Until looks) names = codes "repeat" ∷ codes "until" ∷ looks_fields looks names.name names.other
 text_fields (Assert value) names = codes "assert" ∷ look_fields value names.name
 text_fields (Wait wait) names = codes "wait" ∷ wait_fields wait names
 
@@ -199,7 +216,7 @@ IsTextLine (Plan line) = IsPlanLine line
 IsTextLine (Try is_rwlock step) = IsVerb is_rwlock step × IsTrue (is_tried step)
 IsTextLine (Word word) = ⊤
 IsTextLine (If value) = ⊤
-IsTextLine (Until value) = ⊤
+IsTextLine (Until looks) = ⊤
 IsTextLine (Assert value) = ⊤
 IsTextLine (Wait wait) = ⊤
 
@@ -207,33 +224,36 @@ IsTextLine (Wait wait) = ⊤
 abbrev pub IsOneName : TextNames → Type 0
 IsOneName names = IsTrue (is_name names.name) × (names ≡ one_name names.name)
 
--- whether a wait names a flag
-abbrev pub has_flag : WaitLine → Bool
-has_flag wait.Once = false
-has_flag (wait.Until value) = true
-has_flag wait.OrTimeout = false
-has_flag (wait.UntilOrTimeout value) = true
+-- the names of the flags at which a party leaves a loop
+abbrev pub AreFlags : Looks → List ℕ → List ℕ → Type 0
+AreFlags (looks.One value) flag other = IsTrue (is_name flag) × (other ≡ [])
+AreFlags (looks.Two value second) flag other = IsTrue (is_flag_word flag) × IsTrue (is_flag_word other)
 
--- the name of the flag of a wait, if there is one
-abbrev pub IsFlagField : Bool → List ℕ → Type 0
-IsFlagField true flag = IsTrue (is_name flag)
-IsFlagField false flag = flag ≡ []
+abbrev pub IsLoopNames : Looks → TextNames → Type 0
+IsLoopNames looks names = AreFlags looks names.name names.other × (names ≡ loop_names names.name names.other)
+
+-- the names of the flags of a wait, if there are any
+abbrev pub AreWaitFlags : WaitLine → List ℕ → List ℕ → Type 0
+AreWaitFlags wait.Once flag other = (flag ≡ []) × (other ≡ [])
+AreWaitFlags (wait.Until looks) flag other = AreFlags looks flag other
+AreWaitFlags wait.OrTimeout flag other = (flag ≡ []) × (other ≡ [])
+AreWaitFlags (wait.UntilOrTimeout looks) flag other = AreFlags looks flag other
 
 -- the names after that of the condition variable, and all names after `wait`
-abbrev pub AreMutexAndFlag : Bool → List ℕ → List ℕ → Type 0
-AreMutexAndFlag until mutex flag = IsTrue (is_name mutex) × IsFlagField until flag
+abbrev pub AreMutexAndFlags : WaitLine → List ℕ → List ℕ → List ℕ → Type 0
+AreMutexAndFlags wait mutex flag other = IsTrue (is_name mutex) × AreWaitFlags wait flag other
 
-abbrev pub AreWaitNames : Bool → TextNames → Type 0
-AreWaitNames until names = IsTrue (is_name names.name) × AreMutexAndFlag until names.mutex names.flag
+abbrev pub AreWaitNames : WaitLine → TextNames → Type 0
+AreWaitNames wait names = IsTrue (is_name names.name) × AreMutexAndFlags wait names.mutex names.flag names.other
 
 abbrev pub IsNamed : TextLine → TextNames → Type 0
 IsNamed (Plan line) names = IsOneName names
 IsNamed (Try is_rwlock step) names = IsOneName names
 IsNamed (Word word) names = names ≡ no_names
 IsNamed (If value) names = IsOneName names
-IsNamed (Until value) names = IsOneName names
+IsNamed (Until looks) names = IsLoopNames looks names
 IsNamed (Assert value) names = IsOneName names
-IsNamed (Wait wait) names = AreWaitNames (has_flag wait) names
+IsNamed (Wait wait) names = AreWaitNames wait names
 
 -- the text is such a line, with these names
 pub record Says (text : List ℕ) (line : TextLine) (names : TextNames) : Type 0 where

@@ -57,10 +57,10 @@ pub(crate) fn form_after(word: &str) -> Option<&'static str> {
         "party" | "server" => "NAME [COUNT | *]",
         "set" | "clear" => "FLAG",
         "if" | "assert" => "[not] FLAG",
-        "wait" => "CONDVAR MUTEX [until [not] FLAG] [or timeout]",
+        "wait" => "CONDVAR MUTEX [until [not] FLAG [or [not] FLAG]] [or timeout]",
         "notify_one" | "notify_all" => "CONDVAR",
         "start" | "join" => "PARTY [*]",
-        "repeat" => "[N | until [not] FLAG]",
+        "repeat" => "[N | until [not] FLAG [or [not] FLAG]]",
         "try" => "CALL LOCK",
         "forever" | "leave" | "return" | "either" | "or" | "else" | "end" => "",
         _ => {

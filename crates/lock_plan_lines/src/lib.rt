@@ -30,5 +30,5 @@ pub use open_block::{OpenBlock, OpenBlocks};
 pub use program::{program_of, step_numbers};
 pub use reading::read_line;
 pub use scan::{beginning, line_at};
-pub use text_line::{NamedWord, Parties, PlanLine, TextLine, WaitLine};
+pub use text_line::{Looks, NamedWord, Parties, PlanLine, TextLine, WaitLine};
 pub use unread::unread_fault;

@@ -1,13 +1,20 @@
 //! Names, and those of a line.
 ghost use Rattle.std.specs.Prelude.{◌≡◌};
 ghost use Rattle.std.specs.List.{list_all};
-ghost use Rattle.lock_plan_lines.specs.PlanLines.{is_name, is_name_byte, names_of, no_names, one_name};
+ghost use Rattle.lock_plan_lines.specs.PlanLines.{is_flag_word, is_name, is_name_byte, loop_names, names_of, no_names, one_name};
 
 /// Returns whether a field is a name.
 pub(crate) fn is_name(field: &str) -> bool
     ensures { result ≡ is_name field.now }
 {
     !field.is_empty() && are_name_bytes(field.as_bytes())
+}
+
+/// Returns whether a field is the name of one of two flags. The words between and before them are none.
+pub(crate) fn is_flag_word(field: &str) -> bool
+    ensures { result ≡ is_flag_word field.now }
+{
+    is_name(field) && !matches!(field, "not" | "or" | "timeout")
 }
 
 /// Returns whether names may have all of these bytes.
@@ -38,19 +45,29 @@ pub struct LineNames<'a> {
     pub name: &'a str,
     /// The mutex of a wait.
     pub mutex: &'a str,
-    /// The flag of a wait.
+    /// The flag of a wait, or the first of two.
     pub flag: &'a str,
+    /// The second flag of a loop or a wait.
+    pub other: &'a str,
+}
+
+/// Makes the names of a loop with these flags.
+pub(crate) fn loop_names<'a>(flag: &'a str, other: &'a str) -> LineNames<'a>
+    ensures { names_of result ≡ loop_names flag.now other.now }
+{
+    LineNames {
+        name: flag,
+        mutex: "",
+        flag: "",
+        other,
+    }
 }
 
 /// Makes the names of a line with one name.
 pub(crate) fn one_name(name: &str) -> LineNames
     ensures { names_of result ≡ one_name name.now }
 {
-    LineNames {
-        name,
-        mutex: "",
-        flag: "",
-    }
+    loop_names(name, "")
 }
 
 /// Makes the names of a line that has none.

@@ -8,7 +8,7 @@ ghost use Rattle.lock_plan_lines.specs.Words.{step_word};
 use crate::block_line::block_word;
 use crate::limit::{fair_mutex, reentrant, rwlock};
 use crate::look::{read_look, read_until};
-use crate::name::{LineNames, is_name, no_names, one_name};
+use crate::name::{LineNames, is_name, loop_names, no_names, one_name};
 use crate::party_count::parties;
 use crate::text_line::{Parties, PlanLine, TextLine, named_word};
 use crate::verb::verb;
@@ -37,8 +37,8 @@ pub fn read_line(text: Part) -> Option<(TextLine, LineNames)>
             Some((TextLine::If(value), one_name(name)))
         }
         "repeat" => {
-            let (value, name) = read_until(rest)?;
-            Some((TextLine::Until(value), one_name(name)))
+            let (looks, flag, other) = read_until(rest)?;
+            Some((TextLine::Until(looks), loop_names(flag, other)))
         }
         "assert" => {
             let (value, name) = read_look(rest)?;

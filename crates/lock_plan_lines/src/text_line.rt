@@ -16,11 +16,11 @@ pub enum TextLine {
     Word(BlockWord),
     /// Begins a block whose first part is for this value of the flag that it names.
     If(bool),
-    /// Begins a loop, which a party leaves where the flag that it names has this value.
-    Until(bool),
+    /// Begins a loop, which a party leaves by a look at the flags that it names.
+    Until(Looks),
     /// Asserts that the flag that it names has this value.
     Assert(bool),
-    /// A wait on a condition variable. It names its mutex too, and perhaps a flag.
+    /// A wait on a condition variable. It names its mutex too, and perhaps flags.
     Wait(WaitLine),
 }
 
@@ -77,15 +77,24 @@ pub(crate) fn named_word(word: &str) -> Option<NamedWord>
     }
 }
 
+/// The values of flags at which a party leaves a loop.
+#[derive(Clone, Copy, PartialEq, Eq, Debug)]
+pub enum Looks {
+    /// Of the only flag.
+    One(bool),
+    /// Of the first flag, and of the second. The party looks at the second where the first has another value.
+    Two(bool, bool),
+}
+
 /// For how long a line waits on a condition variable.
 #[derive(Clone, Copy, PartialEq, Eq, Debug)]
 pub enum WaitLine {
     /// For one notification.
     Once,
-    /// Again and again, until the flag has this value.
-    Until(bool),
+    /// Again and again, until a flag has its value.
+    Until(Looks),
     /// For one notification or a timeout.
     OrTimeout,
-    /// Again and again, until the flag has this value or there is a timeout.
-    UntilOrTimeout(bool),
+    /// Again and again, until a flag has its value or there is a timeout.
+    UntilOrTimeout(Looks),
 }

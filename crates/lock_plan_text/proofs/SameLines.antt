@@ -1,5 +1,5 @@
 -- Lines of a party stay what they are when a draft gets more names.
-use Rattle.std.proofs.Common.{◌≡◌, ℕ, Bool, List, [], ◌∷◌, ◌++◌, get_or, Option, Some, None, refl, ap, ◌∙◌}
+use Rattle.std.proofs.Common.{◌≡◌, ℕ, Bool, List, get_or, Option, Some, None, refl, ap, ◌∙◌}
 use Rattle.std.specs.Prelude.{option_map}
 use Rattle.std.specs.Option.{option_and_then}
 use Rattle.lock_modes.specs.declared.lock_step.LockStep.{LockStep}
@@ -8,16 +8,17 @@ use Rattle.lock_plan.specs.Worlds.{no_lock}
 use Rattle.lock_plan_lines.specs.declared.block_line.BlockLine.{BlockLine}
 use Rattle.lock_plan_lines.specs.declared.block_line.BlockLine.TheVariants as block
 use Rattle.lock_plan_lines.specs.declared.block_line.PlainLine.TheVariants as plain
-use Rattle.lock_plan_lines.specs.declared.block_line.BlockWord.TheVariants.{End}
 use Rattle.lock_plan_lines.specs.declared.text_line.NamedWord.{NamedWord}
 use Rattle.lock_plan_lines.specs.declared.text_line.NamedWord.TheVariants.{Set, Clear, NotifyOne, NotifyAll, Start, Join}
 use Rattle.lock_plan_lines.specs.declared.text_line.PlanLine.TheVariants.{Call, Named}
 use Rattle.lock_plan_lines.specs.declared.text_line.TextLine.{TextLine}
 use Rattle.lock_plan_lines.specs.declared.text_line.TextLine.TheVariants.{Plan, Try, Word, If, Until, Assert, Wait}
+use Rattle.lock_plan_lines.specs.declared.text_line.Looks.{Looks}
+use Rattle.lock_plan_lines.specs.declared.text_line.Looks.TheVariants as looks
 use Rattle.lock_plan_lines.specs.declared.text_line.WaitLine.{WaitLine}
 use Rattle.lock_plan_lines.specs.declared.text_line.WaitLine.TheVariants as wait
 use Rattle.lock_plan_lines.specs.PlanLines.{TextNames}
-use Rattle.lock_plan_text.specs.Drafts.{Draft, call_on, step_on, named_call, named_line, one_line, own_lines, place_of, sleep_lines, timed_lines, timed_until_lines, until_lines, wait_lines}
+use Rattle.lock_plan_text.specs.Drafts.{Draft, call_on, step_on, loop_lines, named_call, named_line, one_line, one_look, own_lines, place_of, sleep_lines, timed_lines, timed_until_lines, two_looks, until_lines, wait_lines}
 
 -- what the one draft finds by a name, the other finds too
 pub record Keeps (draft next : Draft) : Type 0 where
@@ -35,6 +36,10 @@ module _ {X Y : Type 0} where
   map_kept : (f : X → Y) (o p : Option X) → IsKept o p → IsKept (option_map f o) (option_map f p)
   map_kept f None p kept y is = cc
   map_kept f (Some x) p kept y is = ap (option_map f) (kept x refl) ∙ is
+
+  by_kept : (f g : X → Y) (o p : Option X) → ((x : X) → g x ≡ f x) → IsKept o p → IsKept (option_map f o) (option_map g p)
+  by_kept f g None p same kept y is = cc
+  by_kept f g (Some x) p same kept y is = ap (option_map g) (kept x refl) ∙ (ap Some (same x) ∙ is)
 
   then_kept : (f g : X → Option Y) (o p : Option X) → ((x : X) → o ≡ Some x → (p ≡ Some x) × IsKept (f x) (g x))
       → IsKept (option_and_then f o) (option_and_then g p)
@@ -72,27 +77,28 @@ module _ (draft next : Draft) (keeps : Keeps draft next) where
       → timed_lines next cond lock ≡ timed_lines draft cond lock
   timed_kept cond lock same = rw same refl
 
-  timed_until_kept : (value : Bool) (cond lock flag : ℕ) → get_or next.locks lock no_lock ≡ get_or draft.locks lock no_lock
-      → timed_until_lines next value cond lock flag ≡ timed_until_lines draft value cond lock flag
-  timed_until_kept value cond lock flag same = rw same refl
+  until_kept : (cond lock : ℕ) (first : List BlockLine) → get_or next.locks lock no_lock ≡ get_or draft.locks lock no_lock
+      → until_lines next cond lock first ≡ until_lines draft cond lock first
+  until_kept cond lock first same = rw same refl
 
-  wait_kept : (wait : WaitLine) (cond lock : ℕ) (flag : List ℕ) → get_or next.locks lock no_lock ≡ get_or draft.locks lock no_lock
-      → IsKept (wait_lines draft wait cond lock flag) (wait_lines next wait cond lock flag)
-  wait_kept wait.Once cond lock flag same lines is = ap Some (sleep_kept cond lock same) ∙ is
-  wait_kept (wait.Until value) cond lock flag same lines is =
-      ap (λ (sleep : List BlockLine). option_map (λ (f : ℕ). block.Until f value ∷ (sleep ++ block.Word End ∷ [])) (place_of next.flag_names flag))
-      (sleep_kept cond lock same)
-      ∙ map_kept (until_lines draft value cond lock) _ _ (keeps.flags flag) lines is
-  wait_kept wait.OrTimeout cond lock flag same lines is = ap Some (timed_kept cond lock same) ∙ is
-  wait_kept (wait.UntilOrTimeout value) cond lock flag same lines is =
-      by_flag (place_of draft.flag_names flag) (keeps.flags flag) is
-    where
-      by_flag : (o : Option ℕ) → ((i : ℕ) → o ≡ Some i → place_of next.flag_names flag ≡ Some i)
-          → option_map (timed_until_lines draft value cond lock) o ≡ Some lines
-          → option_map (timed_until_lines next value cond lock) (place_of next.flag_names flag) ≡ Some lines
-      by_flag None kept e = cc
-      by_flag (Some i) kept e =
-          ap (option_map (timed_until_lines next value cond lock)) (kept i refl) ∙ ap Some (timed_until_kept value cond lock i same) ∙ e
+  timed_until_kept : (cond lock : ℕ) (first : List BlockLine) → get_or next.locks lock no_lock ≡ get_or draft.locks lock no_lock
+      → timed_until_lines next cond lock first ≡ timed_until_lines draft cond lock first
+  timed_until_kept cond lock first same = rw same refl
+
+  loop_kept : (looks : Looks) (flag other : List ℕ) → IsKept (loop_lines draft looks flag other) (loop_lines next looks flag other)
+  loop_kept (looks.One value) flag other = map_kept (one_look value) _ _ (keeps.flags flag)
+  loop_kept (looks.Two value second) flag other =
+      then_kept _ _ _ _
+      (λ first found. (keeps.flags flag first found, map_kept (two_looks value first second) _ _ (keeps.flags other)))
+
+  wait_kept : (wait : WaitLine) (cond lock : ℕ) (flag other : List ℕ) → get_or next.locks lock no_lock ≡ get_or draft.locks lock no_lock
+      → IsKept (wait_lines draft wait cond lock flag other) (wait_lines next wait cond lock flag other)
+  wait_kept wait.Once cond lock flag other same lines is = ap Some (sleep_kept cond lock same) ∙ is
+  wait_kept (wait.Until looks) cond lock flag other same lines is =
+      by_kept _ _ _ _ (λ first. until_kept cond lock first same) (loop_kept looks flag other) lines is
+  wait_kept wait.OrTimeout cond lock flag other same lines is = ap Some (timed_kept cond lock same) ∙ is
+  wait_kept (wait.UntilOrTimeout looks) cond lock flag other same lines is =
+      by_kept _ _ _ _ (λ first. timed_until_kept cond lock first same) (loop_kept looks flag other) lines is
 
   pub kept_lines : (said : TextLine) (names : TextNames) → IsKept (own_lines draft said names) (own_lines next said names)
   kept_lines (Plan (Call for_rwlock step)) names =
@@ -104,8 +110,7 @@ module _ (draft next : Draft) (keeps : Keeps draft next) where
   kept_lines (Word word) names = λ lines is. is
   kept_lines (If value) names =
       map_kept one_line _ _ (map_kept (λ (flag : ℕ). block.If flag value) _ _ (keeps.flags names.name))
-  kept_lines (Until value) names =
-      map_kept one_line _ _ (map_kept (λ (flag : ℕ). block.Until flag value) _ _ (keeps.flags names.name))
+  kept_lines (Until looks) names = loop_kept looks names.name names.other
   kept_lines (Assert value) names =
       map_kept one_line _ _ (map_kept (λ (flag : ℕ). block.Plain (plain.Assert flag value)) _ _ (keeps.flags names.name))
   kept_lines (Wait wait) names =
@@ -115,6 +120,6 @@ module _ (draft next : Draft) (keeps : Keeps draft next) where
         then_kept _ _ _ _
             (λ lock at. (
               (keeps.locks names.mutex lock at).0,
-              wait_kept wait cond lock names.flag (keeps.locks names.mutex lock at).1,
+              wait_kept wait cond lock names.flag names.other (keeps.locks names.mutex lock at).1,
             )),
       ))

@@ -25,6 +25,8 @@ use Rattle.lock_plan_lines.specs.declared.text_line.Parties.TheVariants.{One, Co
 use Rattle.lock_plan_lines.specs.declared.text_line.PlanLine.TheVariants.{Lock, Flag, Party, Call, Named}
 use Rattle.lock_plan_lines.specs.declared.text_line.TextLine.{TextLine}
 use Rattle.lock_plan_lines.specs.declared.text_line.TextLine.TheVariants.{Plan, Try, Word, If, Until, Assert, Wait}
+use Rattle.lock_plan_lines.specs.declared.text_line.Looks.{Looks}
+use Rattle.lock_plan_lines.specs.declared.text_line.Looks.TheVariants as looks
 use Rattle.lock_plan_lines.specs.declared.text_line.WaitLine.{WaitLine}
 use Rattle.lock_plan_lines.specs.declared.text_line.WaitLine.TheVariants as wait
 use Rattle.lock_plan_lines.specs.OpenBlocks.{has_loop, open_after}
@@ -229,24 +231,39 @@ unlock_line draft lock = block.Call (mutex_call draft (Modes (Release Exclusive)
 abbrev pub lock_line : Draft → ℕ → BlockLine
 lock_line draft lock = block.Call (mutex_call draft (Modes (Acquire Exclusive)) lock)
 
+-- the first lines of a loop that a party leaves where the only flag has this value
+abbrev pub one_look : Bool → ℕ → List BlockLine
+one_look value flag = block.Until flag value ∷ []
+
+-- the same of two flags, where the party looks at the second after the first
+abbrev pub two_looks : Bool → ℕ → Bool → ℕ → List BlockLine
+two_looks value flag second other =
+    block.Until flag value ∷ block.If other second ∷ block.Word Leave ∷ block.Word End ∷ []
+
+abbrev pub loop_lines : Draft → Looks → List ℕ → List ℕ → Option (List BlockLine)
+loop_lines draft (looks.One value) flag other = option_map (one_look value) (place_of draft.flag_names flag)
+loop_lines draft (looks.Two value second) flag other =
+    option_and_then (λ first. option_map (two_looks value first second) (place_of draft.flag_names other))
+    (place_of draft.flag_names flag)
+
 -- a wait: it unlocks the mutex, sleeps and locks it again
 abbrev pub sleep_lines : Draft → ℕ → ℕ → List BlockLine
 sleep_lines draft cond lock = unlock_line draft lock ∷ block.Plain (plain.Sleep cond) ∷ lock_line draft lock ∷ []
 
--- the same in a loop, which a party leaves where the flag has this value
-abbrev pub until_lines : Draft → Bool → ℕ → ℕ → ℕ → List BlockLine
-until_lines draft value cond lock flag = block.Until flag value ∷ (sleep_lines draft cond lock ++ block.Word End ∷ [])
+-- the same in a loop with these first lines
+abbrev pub until_lines : Draft → ℕ → ℕ → List BlockLine → List BlockLine
+until_lines draft cond lock first = first ++ (sleep_lines draft cond lock ++ block.Word End ∷ [])
 
 -- a wait that a timeout ends too
 abbrev pub timed_lines : Draft → ℕ → ℕ → List BlockLine
 timed_lines draft cond lock =
     unlock_line draft lock ∷ block.TimedSleep cond ∷ block.Word Else ∷ block.Word End ∷ lock_line draft lock ∷ []
 
--- the same in a loop, which a party leaves after a timeout too
-abbrev pub timed_until_lines : Draft → Bool → ℕ → ℕ → ℕ → List BlockLine
-timed_until_lines draft value cond lock flag =
-    block.Until flag value
-    ∷ unlock_line draft lock
+-- the same in a loop with these first lines, which a party leaves after a timeout too
+abbrev pub timed_until_lines : Draft → ℕ → ℕ → List BlockLine → List BlockLine
+timed_until_lines draft cond lock first =
+    first
+    ++ unlock_line draft lock
     ∷ block.TimedSleep cond
     ∷ lock_line draft lock
     ∷ block.Word Else
@@ -256,13 +273,13 @@ timed_until_lines draft value cond lock flag =
     ∷ block.Word End
     ∷ []
 
-abbrev pub wait_lines : Draft → WaitLine → ℕ → ℕ → List ℕ → Option (List BlockLine)
-wait_lines draft wait.Once cond lock flag = Some (sleep_lines draft cond lock)
-wait_lines draft (wait.Until value) cond lock flag =
-    option_map (until_lines draft value cond lock) (place_of draft.flag_names flag)
-wait_lines draft wait.OrTimeout cond lock flag = Some (timed_lines draft cond lock)
-wait_lines draft (wait.UntilOrTimeout value) cond lock flag =
-    option_map (timed_until_lines draft value cond lock) (place_of draft.flag_names flag)
+abbrev pub wait_lines : Draft → WaitLine → ℕ → ℕ → List ℕ → List ℕ → Option (List BlockLine)
+wait_lines draft wait.Once cond lock flag other = Some (sleep_lines draft cond lock)
+wait_lines draft (wait.Until looks) cond lock flag other =
+    option_map (until_lines draft cond lock) (loop_lines draft looks flag other)
+wait_lines draft wait.OrTimeout cond lock flag other = Some (timed_lines draft cond lock)
+wait_lines draft (wait.UntilOrTimeout looks) cond lock flag other =
+    option_map (timed_until_lines draft cond lock) (loop_lines draft looks flag other)
 
 -- the lines of a party that a line of the text says; none if a name in it has no line
 abbrev pub own_lines : Draft → TextLine → TextNames → Option (List BlockLine)
@@ -277,13 +294,13 @@ own_lines draft (Try for_rwlock step) names =
 own_lines draft (Word word) names = Some (one_line (block.Word word))
 own_lines draft (If value) names =
     option_map one_line (option_map (λ flag. block.If flag value) (place_of draft.flag_names names.name))
-own_lines draft (Until value) names =
-    option_map one_line (option_map (λ flag. block.Until flag value) (place_of draft.flag_names names.name))
+own_lines draft (Until looks) names = loop_lines draft looks names.name names.other
 own_lines draft (Assert value) names =
     option_map one_line (option_map (λ flag. block.Plain (plain.Assert flag value)) (place_of draft.flag_names names.name))
 own_lines draft (Wait wait) names =
     option_and_then
-    (λ cond. option_and_then (λ lock. wait_lines draft wait cond lock names.flag) (place_of draft.lock_names names.mutex))
+    (λ cond. option_and_then (λ lock. wait_lines draft wait cond lock names.flag names.other)
+    (place_of draft.lock_names names.mutex))
     (place_of draft.cond_names names.name)
 
 -- the draft with the lines of the last parties that a line of the text says

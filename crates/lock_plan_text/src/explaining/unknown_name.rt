@@ -19,7 +19,8 @@ impl PlanDraft {
     {
         let kind = match line {
             TextLine::Plan(PlanLine::Call(..)) | TextLine::Try(..) => NameKind::Lock,
-            TextLine::If(_) | TextLine::Until(_) | TextLine::Assert(_) => NameKind::Flag,
+            TextLine::If(_) | TextLine::Assert(_) => NameKind::Flag,
+            TextLine::Until(_) => return self.unknown_flag(names.name, names.other),
             TextLine::Plan(PlanLine::Named(word)) => kind_after(word)?,
             TextLine::Wait(_) => return self.unknown_in_wait(names),
             TextLine::Plan(_) | TextLine::Word(_) => return None,
@@ -40,7 +41,20 @@ impl PlanDraft {
         if names.flag.is_empty() {
             return None;
         }
-        self.unknown(NameKind::Flag, names.flag)
+        self.unknown_flag(names.flag, names.other)
+    }
+
+    /// Explains the first of one or two names of flags that no flag has.
+    fn unknown_flag<'a>(&self, flag: &'a str, other: &'a str) -> Option<LineFault<'a>>
+        ensures { IfSome result (IsTrueOf (drafted self.now)) }
+    {
+        if let Some(fault) = self.unknown(NameKind::Flag, flag) {
+            return Some(fault);
+        }
+        if other.is_empty() {
+            return None;
+        }
+        self.unknown(NameKind::Flag, other)
     }
 
     /// Explains a name that nothing of this kind has.

@@ -1,5 +1,5 @@
 //! The lines of a party that a line of the text says.
-ghost use Rattle.std.specs.Prelude.{◌≡◌, IfOk, Some, option_map};
+ghost use Rattle.std.specs.Prelude.{◌≡◌, ◌++◌, IfOk, Some, option_map};
 ghost use Rattle.std.proofs.Common.{get_or};
 ghost use Rattle.lock_modes.specs.declared.lock_step.LockStep.TheVariants.{Modes};
 ghost use Rattle.lock_modes.specs.declared.mode.Mode.TheVariants.{Exclusive};
@@ -7,14 +7,14 @@ ghost use Rattle.lock_modes.specs.declared.mode_step.ModeStep.TheVariants.{Acqui
 ghost use Rattle.lock_plan.specs.Worlds.{no_lock};
 ghost use Rattle.lock_plan_lines.specs.declared.text_line.TextLine.TheVariants as text;
 ghost use Rattle.lock_plan_lines.specs.PlanLines.{names_of};
-ghost use Rattle.lock_plan_text.specs.Drafts.{mutex_call, mutex_step, named_call, named_line, no_step, one_line, own_lines, step_on};
+ghost use Rattle.lock_plan_text.specs.Drafts.{loop_lines, mutex_call, mutex_step, named_call, named_line, no_step, one_line, own_lines, step_on};
 ghost use Rattle.lock_plan_text.specs.Drafted.{drafted};
 
 use crate::parser::draft::PlanDraft;
 use lock_modes::{Kind, LockStep, Mode, ModeStep};
 use lock_plan::PlanCall;
 use lock_plan_lines::{
-    BlockLine, BlockWord, LineNames, NamedWord, PlainLine, PlanLine, TextLine, WaitLine,
+    BlockLine, BlockWord, LineNames, Looks, NamedWord, PlainLine, PlanLine, TextLine, WaitLine,
 };
 use std::alloc::{AllocError, Global};
 
@@ -50,10 +50,7 @@ impl PlanDraft {
                 Some(flag) => one_line(alloc, BlockLine::If(flag, value)),
                 None => Ok(None),
             },
-            TextLine::Until(value) => match self.names.flags.place_of(names.name) {
-                Some(flag) => one_line(alloc, BlockLine::Until(flag, value)),
-                None => Ok(None),
-            },
+            TextLine::Until(looks) => self.loop_lines(alloc, looks, names.name, names.other),
             TextLine::Assert(value) => match self.names.flags.place_of(names.name) {
                 Some(flag) => one_line(alloc, BlockLine::Plain(PlainLine::Assert(flag, value))),
                 None => Ok(None),
@@ -81,6 +78,35 @@ impl PlanDraft {
         Some(BlockLine::Plain(line))
     }
 
+    /// Returns the first lines of a loop that a party leaves by a look at these flags.
+    fn loop_lines(
+        &self,
+        alloc: Global,
+        looks: Looks,
+        flag: &str,
+        other: &str,
+    ) -> Result<Option<Vec<BlockLine>>, AllocError>
+        ensures { IfOk result (λ lines. option_map (λ v. v.items) lines
+            ≡ loop_lines (drafted self.now) looks flag.now other.now) }
+    {
+        let Some(flag) = self.names.flags.place_of(flag) else {
+            return Ok(None);
+        };
+        match looks {
+            Looks::One(value) => one_line(alloc, BlockLine::Until(flag, value)),
+            Looks::Two(value, second) => {
+                let Some(other) = self.names.flags.place_of(other) else {
+                    return Ok(None);
+                };
+                let until = BlockLine::Until(flag, value);
+                let look = BlockLine::If(other, second);
+                let leave = BlockLine::Word(BlockWord::Leave);
+                let end = BlockLine::Word(BlockWord::End);
+                Ok(Some(vec![in alloc; until, look, leave, end]?))
+            }
+        }
+    }
+
     /// Returns the lines of a wait.
     fn wait_lines(
         &self,
@@ -104,20 +130,18 @@ impl PlanDraft {
         let part = BlockLine::Word(BlockWord::Else);
         let end = BlockLine::Word(BlockWord::End);
         let leave = BlockLine::Word(BlockWord::Leave);
-        let lines = match (wait, self.names.flags.place_of(names.flag)) {
-            (WaitLine::Once, _) => vec![in alloc; unlock, sleep, lock]?,
-            (WaitLine::OrTimeout, _) => vec![in alloc; unlock, timed, part, end, lock]?,
-            (WaitLine::Until(value), Some(flag)) => {
-                let until = BlockLine::Until(flag, value);
-                vec![in alloc; until, unlock, sleep, lock, end]?
+        match wait {
+            WaitLine::Once => Ok(Some(vec![in alloc; unlock, sleep, lock]?)),
+            WaitLine::OrTimeout => Ok(Some(vec![in alloc; unlock, timed, part, end, lock]?)),
+            WaitLine::Until(looks) => {
+                let first = self.loop_lines(alloc, looks, names.flag, names.other)?;
+                with_lines(first, &[unlock, sleep, lock, end])
             }
-            (WaitLine::UntilOrTimeout(value), Some(flag)) => {
-                let until = BlockLine::Until(flag, value);
-                vec![in alloc; until, unlock, timed, lock, part, lock, leave, end, end]?
+            WaitLine::UntilOrTimeout(looks) => {
+                let first = self.loop_lines(alloc, looks, names.flag, names.other)?;
+                with_lines(first, &[unlock, timed, lock, part, lock, leave, end, end])
             }
-            _ => return Ok(None),
-        };
-        Ok(Some(lines))
+        }
     }
 
     /// Returns the call with this word on the lock of this name, if there is such a lock.
@@ -160,6 +184,21 @@ impl PlanDraft {
             None => Kind::Mutex,
         }
     }
+}
+
+/// Adds lines to some others.
+fn with_lines(
+    first: Option<Vec<BlockLine>>,
+    last: &[BlockLine],
+) -> Result<Option<Vec<BlockLine>>, AllocError>
+    ensures { IfOk result (λ lines. option_map (λ v. v.items) lines
+        ≡ option_map (λ lines. lines ++ last.now) (option_map (λ v. v.items) first)) }
+{
+    let Some(mut lines) = first else {
+        return Ok(None);
+    };
+    lines.extend_from_slice(last)?;
+    Ok(Some(lines))
 }
 
 /// Makes the list of one line.
