@@ -35,6 +35,8 @@ LOOPS = {"repeat", "until", "forever"}
 TURNS = {("else", "try"): "else", ("else", "if"): "else", ("else", "timed sleep"): "else", ("or", "either"): "or", ("or", "or"): "or"}
 ENDS = {*LOOPS, "try", "if", "else", "or"}
 PARTS = {"else", "or", "end"}
+# words of a loop with two looks, which no flag of it may have for a name
+BETWEEN_LOOKS = {"not", "or", "timeout"}
 SLEEPS = {"sleep", "timed sleep"}
 DECLARED = {"mutex", "rwlock", "reentrant", "flag", "condvar"}
 WORD = re.compile(r"[^ \t\r]+")
@@ -275,8 +277,10 @@ def lines_of(plan, number, words):
             return [Line(number, word, name=name)]
         case [("notify_one" | "notify_all") as word, name] if name in plan.condvars:
             return [Line(number, word, name=name)]
-        case ["assert" | "if", *test] | ["repeat", "until", *test]:
-            return test_lines(plan, number, "until" if words[0] == "repeat" else words[0], test)
+        case ["assert" | "if" as word, *test]:
+            return test_lines(plan, number, word, test)
+        case ["repeat", "until", *looks]:
+            return until_lines(plan, number, looks)
         case ["wait", condvar, mutex, *rest] if condvar in plan.condvars and mutex in plan.locks:
             return wait_lines(plan, number, condvar, mutex, rest)
     return []
@@ -288,15 +292,27 @@ def test_lines(plan, number, word, test):
     return [Line(number, word, name=test[-1], value=not is_not)] if len(test) == 1 + is_not and test[-1] in plan.flags else []
 
 
+def until_lines(plan, number, looks):
+    """The first lines of a loop with these words after `until`, or none where they are wrong.
+
+    They are a test, or two with `or` between them. After the first of two the party makes the second, which leads past the loop by a `leave`.
+    """
+    for at in (it for it, word in enumerate(looks) if word == "or"):
+        lines = [test_lines(plan, number, word, test) for word, test in (("until", looks[:at]), ("if", looks[at + 1 :]))]
+        if all(lines) and not BETWEEN_LOOKS & {it.name for those in lines for it in those}:
+            return [*lines[0], *lines[1], Line(number, "leave"), Line(number, "end")]
+    return test_lines(plan, number, "until", looks)
+
+
 def wait_lines(plan, number, condvar, mutex, rest):
     """The lines of a wait, or none where the words after its mutex are wrong.
 
-    They are `wait` with the release of the mutex, `sleep`, and the call that acquires the mutex again. With a flag, they lie between
-    `until` and `end`. A `timed sleep` begins a block of two parts: the first for a party that is woken, the second after a timeout.
+    They are `wait` with the release of the mutex, `sleep`, and the call that acquires the mutex again. With flags, they lie between
+    the first lines of a loop and `end`. A `timed sleep` begins a block of two parts: the first for a party that is woken, the second after a timeout.
     """
     is_timed = rest[-2:] == ["or", "timeout"]
     rest = rest[:-2] if is_timed else rest
-    until = test_lines(plan, number, "until", rest[1:]) if rest[:1] == ["until"] else []
+    until = until_lines(plan, number, rest[1:]) if rest[:1] == ["until"] else []
     if rest and not until:
         return []
     release, lock = Line(number, "wait", Call("unlock", mutex), condvar), Line(number, "call", Call("lock", mutex))

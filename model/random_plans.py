@@ -25,13 +25,14 @@ CHANGES = {
 # texts and lines with which a plan may become wrong
 SPOILS = [
     "", " ", "\n", "x", "0", "\r", "\u00e9", " bar", " fair", "4294967296", "lock0", "party p1\n", "server p 2\n", "mutex lock0\n",
-    "end\n", " not", " until flag0", " true", "flag flag0\n", "condvar cond0\n", "start p1\n", " or timeout", " *", "[i]", "[i+1]", "[2]", " 2",
+    "end\n", " not", " until flag0", " or flag0", " true", "flag flag0\n", "condvar cond0\n", "start p1\n", " or timeout", " *", "[i]", "[i+1]", "[2]", " 2",
     "repeat 2\n", "leave\n", "return\n",
 ]
 STRAY_BLOCKS = ["repeat", "either", "else", "or", "end", "forever", "repeat 2", "leave", "return"]
 STRAY_SIGNALS = [
     "set flag0", "if flag0", "if not flag0", "wait cond0 lock0", "start p1", "join p9", "notify_all cond0", "assert flag0", "repeat until flag0",
     "wait cond0 lock0 until flag0 or timeout", "start p2 *", "join p1 *",
+    "repeat until flag0 or not flag1", "wait cond0 lock0 until flag0 or flag1 or timeout",
 ]
 ACQUISITIONS = [("read", "shared"), ("read", "shared"), ("write", "exclusive"), ("upgradable_read", "upgradable")]
 ANY_CALL = ["lock", "announce", *(word for word, _ in ACQUISITIONS)]
@@ -110,13 +111,19 @@ def random_signals(rng, lines, kinds, heads):
     return Signals(flags, condvars, parties, unstarted)
 
 
+def other_flags(rng, signals):
+    """A second test of a loop with flags, or nothing."""
+    return [f"{rng.choice(['', '', 'not '])}{rng.choice(signals.flags)}"] if rng.random() < 0.5 else []
+
+
 def chain_lines(rng, signals, number):
     """The first lines of a party of a chain: each party starts the next one and sleeps, and the last one notifies them."""
     condvar, flags = signals.condvars[0], signals.flags[:1]
     signals.unstarted.clear()
     if number + 1 == len(signals.parties):
         return ["lock lock0", *[f"set {it}" for it in flags], f"notify_{rng.choice(['one', 'all'])} {condvar}", "unlock lock0"]
-    until = "".join(f" until {it}" for it in flags) + rng.choice(["", "", " or timeout"])
+    until = f" until {' or '.join([*flags, *other_flags(rng, signals)])}" if flags else ""
+    until += rng.choice(["", "", " or timeout"])
     return ["lock lock0", f"start {signals.parties[number + 1]}", f"wait {condvar} lock0{until}", "unlock lock0"]
 
 
@@ -263,7 +270,7 @@ class Maker(NamedTuple):
         if signals.condvars:
             condvar = rng.choice(signals.condvars)
             found += [f"notify_{rng.choice(['one', 'all'])} {condvar}"]
-            until = f" until {rng.choice(['', '', 'not '])}{flag}" if flag and rng.random() < 0.7 else ""
+            until = f" until {' or '.join([rng.choice(['', '', 'not ']) + flag, *other_flags(rng, signals)])}" if flag and rng.random() < 0.7 else ""
             until += rng.choice(["", "", " or timeout"])
             found += 2 * [f"wait {condvar} {lock}{until}" for lock, mode in held if self.kinds[lock] == "mutex" or rng.random() < 0.02]
         return [rng.choice(found)] if found else [self.join()]
@@ -304,7 +311,7 @@ class Maker(NamedTuple):
     def loop(self, held):
         """A loop of a party with these holds, or a block that is made twice."""
         flags = self.signals.flags if self.signals else []
-        tests = [f"repeat until {self.rng.choice(['', 'not '])}{it}" for it in flags]
+        tests = [f"repeat until {' or '.join([self.rng.choice(['', 'not ']) + it, *other_flags(self.rng, self.signals)])}" for it in flags]
         head = self.rng.choice(["repeat", "forever", "repeat 2", "repeat 2", *2 * tests])
         ways_out = self.way_out(held, head == "forever") if head == "forever" or head != "repeat 2" and self.rng.random() < 0.6 else []
         return [head, *self.part(held), *ways_out, *(self.part(held) if self.rng.random() < 0.3 else []), "end"]
