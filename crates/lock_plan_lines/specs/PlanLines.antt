@@ -38,7 +38,7 @@ is_name_byte b = is_ascii_alphanumeric b || ((b == 95) || ((b == 45) || (b == 46
 abbrev pub is_name : List ℕ → Bool
 is_name name = nat_lt 0 (length name) && list_all is_name_byte name
 
--- the name of one of two flags is none of the words that stand before and between them
+-- whether it can be the name of one of two flags: `not`, `or` and `timeout` cannot
 abbrev pub is_flag_word : List ℕ → Bool
 is_flag_word name =
     is_name name && not (bytes_eq name (codes "not") || (bytes_eq name (codes "or") || bytes_eq name (codes "timeout")))

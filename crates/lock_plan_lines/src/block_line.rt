@@ -8,7 +8,7 @@ use lock_plan::PlanCall;
 ///
 /// The number of a flag, a condition variable or a mention of a party is its place in the text's list of that kind.
 /// Before a program is made, the number of a flag or a mention becomes that of its row. The row of a flag that is true at
-/// first stands for its opposite: `Set` becomes `Clear`, and each value the other one.
+/// first has the opposite value: `Set` becomes `Clear`, and each value is inverted.
 #[derive(Clone, Copy, PartialEq, Eq, Debug)]
 pub enum BlockLine {
     Call(PlanCall),

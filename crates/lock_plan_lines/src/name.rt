@@ -10,7 +10,7 @@ pub(crate) fn is_name(field: &str) -> bool
     !field.is_empty() && are_name_bytes(field.as_bytes())
 }
 
-/// Returns whether a field is the name of one of two flags. The words between and before them are none.
+/// Returns whether a field can be the name of one of two flags: `not`, `or` and `timeout` cannot.
 pub(crate) fn is_flag_word(field: &str) -> bool
     ensures { result ≡ is_flag_word field.now }
 {

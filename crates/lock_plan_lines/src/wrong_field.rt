@@ -111,7 +111,7 @@ fn wrong_count(last: &str) -> Option<LineFault>
     Some(LineFault::NoCount(last))
 }
 
-/// Explains a name before a `*`. With copies, the line of each copy would be in the place of this line.
+/// Explains a line for all copies of a party that has none. Such a line of a party with copies was replaced by theirs.
 fn wrong_copies<'a>(name: &'a str, last: &str) -> Option<LineFault<'a>>
     ensures { IfSome result IsUnread }
 {

@@ -186,7 +186,7 @@ impl PlanDraft {
     }
 }
 
-/// Adds lines to some others.
+/// Adds the last lines of a loop to its first ones, if there are any.
 fn with_lines(
     first: Option<Vec<BlockLine>>,
     last: &[BlockLine],
