@@ -8,11 +8,11 @@ ghost use Rattle.lock_plan_answer.specs.Marks.{locks_held};
 ghost use Rattle.lock_plan_answer.specs.Lanes.{held_text, sleep_text, step_cell, arrow_text, stop_cell, cell_of};
 
 use crate::mark::{Marked, Style, add_marks, write_marks};
-use crate::names::{name_at, row_name};
+use crate::names::row_name;
 use crate::source::Source;
 use crate::stand::{act_at, hold_at, is_stopped, sleep_of};
 use lock_plan::{Act, Signal};
-use lock_plan_text::Names;
+use lock_plan_text::{Names, name_at};
 use std::alloc::AllocError;
 
 /// A row of a drawing.

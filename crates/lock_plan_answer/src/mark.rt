@@ -2,8 +2,8 @@
 ghost use Rattle.std.specs.Prelude.{◌≡◌, ◌++◌, OnOk, string_bytes};
 ghost use Rattle.lock_plan_answer.specs.Marks.{mark_if, times, shared_marks, marks_of, mark_text, gap_text, marked_text, marks_text};
 
-use crate::names::name_at;
 use lock_modes::Hold;
+use lock_plan_text::name_at;
 use std::alloc::AllocError;
 
 /// A mode that is held, or an announcement.

@@ -1,21 +1,10 @@
 //! The names of a plan, and the values of its flags.
 ghost use Rattle.std.specs.Prelude.{◌≡◌, ◌++◌, OnOk, string_bytes};
 ghost use Rattle.std.specs.List.{flat_map};
-ghost use Rattle.lock_plan_text.specs.Names.{name_of};
 ghost use Rattle.lock_plan_answer.specs.RowNames.{is_party, is_true_first, party_line, row_name, value_of};
 
-use lock_plan_text::Names;
+use lock_plan_text::{Names, name_at};
 use std::alloc::AllocError;
-
-/// Returns the name with this number, or an empty one if there is none.
-pub(crate) fn name_at(names: &[String], number: usize) -> &str
-    ensures { result.now ≡ name_of names.now number }
-{
-    match names.get(number) {
-        Some(name) => name.as_str(),
-        None => "",
-    }
-}
 
 /// Returns whether a row is a party. The rows after the parties are the flags.
 pub(crate) fn is_party(names: &Names, row: usize) -> bool

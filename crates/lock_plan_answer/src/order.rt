@@ -5,9 +5,8 @@ ghost use Rattle.lock_plan_answer.specs.LineNumbers.{number_by};
 ghost use Rattle.lock_plan_answer.specs.Orders.{advice, broken_text, kept_text, line_of, lock_name, obstacle_line, order_names, order_text, party_name, separator, uncovered_line};
 
 use crate::line_numbers::LineNumbers;
-use crate::names::name_at;
 use lock_plan_order::{LockOrder, Obstacle};
-use lock_plan_text::{PlanText, PlanTextFault};
+use lock_plan_text::{PlanText, PlanTextFault, name_at};
 use std::alloc::{AllocError, Global};
 
 /// Appends the order of the locks, or that no waits make a circle, or the lines that are in the way and the number of each.

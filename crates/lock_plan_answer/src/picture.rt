@@ -6,14 +6,13 @@ mod svg;
 mod waits;
 
 use crate::mark::Mark;
-use crate::names::name_at;
 use crate::source::Source;
 use crate::step::{Made, stepped, write_made};
 use crate::stop::stop_word;
 use bars::write_bars;
 use layout::Layout;
 use lock_plan::{Explored, Plan, Step};
-use lock_plan_text::Names;
+use lock_plan_text::{Names, name_at};
 use std::alloc::{AllocError, Global};
 use svg::{Spot, Svg};
 use waits::{draw_waits, write_stopped};

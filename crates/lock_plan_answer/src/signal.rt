@@ -4,11 +4,11 @@ ghost use Rattle.lock_plan.specs.Stops.{world_of};
 ghost use Rattle.lock_plan_answer.specs.RowNames.{row_name, value_of};
 ghost use Rattle.lock_plan_answer.specs.Signals.{sleepers, woken, rows_text, notice_text, set_word, start_word, assert_word, assert_text, signal_text, turn_text, value_text, choice_text};
 
-use crate::names::{is_party, name_at, row_name, value_of};
+use crate::names::{is_party, row_name, value_of};
 use crate::source::Source;
 use crate::stand::sleep_of;
 use lock_plan::{Block, Signal};
-use lock_plan_text::Names;
+use lock_plan_text::{Names, name_at};
 use std::alloc::{AllocError, Global};
 
 /// Appends a choice of the first way or the other one.

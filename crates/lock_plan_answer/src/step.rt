@@ -8,13 +8,13 @@ ghost use Rattle.lock_plan_answer.specs.Signals.{sleep_of};
 ghost use Rattle.lock_plan_answer.specs.Steps.{call_by, call_text, made_text, marked_step, steps_text, made_step, stepped, last_world};
 
 use crate::line_mark::{LineMark, write_mark};
-use crate::names::name_at;
 use crate::signal::{write_choice, write_signal};
 use crate::source::Source;
 use crate::stand::{act_at, sleep_of, turn_at};
 use crate::words::step_word;
 use lock_modes::{Kind, LockStep};
 use lock_plan::{Act, Plan, PlanCall, PlanLock, Step, Turn};
+use lock_plan_text::name_at;
 use std::alloc::{AllocError, Global};
 
 /// A step, and the nodes before and after it.

@@ -8,12 +8,13 @@ ghost use Rattle.lock_plan_answer.specs.Stops.{adds_reader, awaited_text, call_h
 
 use crate::line_mark::{LineMark, write_mark};
 use crate::mark::{Marked, Style, add_marks, write_marks};
-use crate::names::{name_at, row_name};
+use crate::names::row_name;
 use crate::signal::write_assert;
 use crate::source::Source;
 use crate::step::{lock_at, write_call};
 use lock_modes::{LockStep, Mode, ModeStep};
 use lock_plan::{Act, PartyHold, PlanLock, Signal, Stopped};
+use lock_plan_text::name_at;
 use std::alloc::{AllocError, Global};
 
 /// Returns the word for a stop with these stopped parties.

@@ -13,7 +13,7 @@ mod parser;
 pub use explaining::explain_line;
 pub use lock_plan_lines::{LineFault, NameKind};
 pub use name_set::NameSet;
-pub use names::Names;
+pub use names::{Names, name_at};
 pub use parser::{
     NamedPlan, PlanText, PlanTextFault, calls_have_lines, parse_plan, parse_text,
     texts_fit_machines, texts_have_one_meaning,

@@ -33,3 +33,16 @@ impl Names {
         }
     }
 }
+
+ghost use Rattle.std.specs.Prelude.{◌≡◌};
+ghost use Rattle.lock_plan_text.specs.Names.{name_of};
+
+/// Returns the name with this number, or an empty one if there is none.
+pub fn name_at(names: &[String], number: usize) -> &str
+    ensures { result.now ≡ name_of names.now number }
+{
+    match names.get(number) {
+        Some(name) => name.as_str(),
+        None => "",
+    }
+}

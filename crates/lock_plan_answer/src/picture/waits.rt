@@ -1,11 +1,11 @@
 //! What stopped parties wait for, and an arrow from each to the parties that it waits for.
-use crate::names::name_at;
 use crate::picture::Run;
 use crate::picture::layout::Layout;
 use crate::picture::svg::{Spot, Svg};
 use crate::source::Source;
 use crate::stop::write_awaited;
 use lock_plan::{Act, Signal, Stopped};
+use lock_plan_text::name_at;
 use std::alloc::{AllocError, Global};
 
 /// Writes what a stopped party waits for below its line.

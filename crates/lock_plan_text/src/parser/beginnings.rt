@@ -1,6 +1,6 @@
 //! The parties that never begin.
+use crate::names::name_at;
 use crate::parser::draft::PlanDraft;
-use crate::parser::party_lines::name_at;
 use std::alloc::{AllocError, Global};
 
 impl PlanDraft {

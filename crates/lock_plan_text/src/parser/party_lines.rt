@@ -1,4 +1,5 @@
 //! The lines of a party's program, by rows: those of the parties, and then those of the flags.
+use crate::names::name_at;
 use crate::parser::draft::PlanDraft;
 use lock_plan_lines::{BlockLine, PlainLine};
 use std::alloc::{AllocError, Global};
@@ -141,7 +142,6 @@ impl PlanDraft {
 
 ghost use Rattle.std.specs.Prelude.{◌≡◌, [], map};
 ghost use Rattle.std.proofs.Common.{get_or};
-ghost use Rattle.lock_plan_text.specs.Names.{name_of};
 ghost use Rattle.lock_plan_text.specs.PartyLines.{moved};
 
 /// Returns the line that starts the row of a flag, or lets it idle again.
@@ -152,16 +152,6 @@ fn moved(row: usize, ends: bool) -> PlainLine
         PlainLine::Set(row)
     } else {
         PlainLine::Clear(row)
-    }
-}
-
-/// Returns the name with this number, or an empty one if there is none.
-pub(crate) fn name_at(names: &[String], number: usize) -> &str
-    ensures { result.now ≡ name_of names.now number }
-{
-    match names.get(number) {
-        Some(name) => name.as_str(),
-        None => "",
     }
 }
 
