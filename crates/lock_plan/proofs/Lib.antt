@@ -1,3 +1,6 @@
+pub mod HoldNodes
+pub mod Listed
+pub mod SameHolds
 pub mod Leads
 pub mod AnyOf
 pub mod EachBelow

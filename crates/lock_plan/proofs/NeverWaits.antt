@@ -1,7 +1,7 @@
 -- What the test of a party knows of its program.
-use Rattle.std.proofs.Common.{◌≡◌, ℕ, ◌<◌, ◌≤◌, Bool, true, false, if◌then◌else◌, nat_lt, List, length, map, get_or, Option, Some, None, option_map, Ok, Vec, Global, refl, sym, ap, ◌∙◌, subst}
+use Rattle.std.proofs.Common.{◌≡◌, ℕ, ◌<◌, ◌≤◌, Bool, true, false, if◌then◌else◌, nat_lt, List, length, get_or, Option, Some, None, Ok, refl, sym, ap, ◌∙◌, subst}
 use Rattle.std.proofs.lemmas.Bool.{ltb-true}
-use Rattle.std.proofs.lemmas.List.{get_or-map as get_or-map-within}
+use Rattle.std.proofs.lemmas.List.{get_or_default}
 use Rattle.lock_modes.specs.declared.hold.Hold.{Hold}
 use Rattle.lock_modes.specs.Modes.{tokens}
 use Rattle.lock_modes.specs.Holds.{no_hold}
@@ -17,15 +17,9 @@ use Rattle.lock_plan.specs.Worlds.{act_in}
 use Rattle.lock_plan.proofs.Walked.{Leaves, act_there, walked_is}
 
 -- what the party holds at a place, as the code reads it
-pub known_item : (known : List (Option (Vec Hold Global))) (i place : ℕ) (held : Option (Vec Hold Global)) (holds : List Hold) → place ≡ i
-    → held ≡ get_or known i held → i < length known → option_map (λ v. v.items) held ≡ Some holds
-    → known_at (map (option_map (λ v. v.items)) known) place ≡ Some holds
-known_item known i place held holds at is lt e =
-    let shown : Option (Vec Hold Global) → Option (List Hold) = option_map (λ v. v.items) in
-    ap (known_at (map shown known)) at
-    ∙ get_or-map-within shown known i held None lt
-    ∙ ap shown (sym is)
-    ∙ e
+pub known_item : (known : Known) (i place : ℕ) (held : Option (List Hold)) (holds : List Hold) → place ≡ i → held ≡ get_or known i held
+    → i < length known → held ≡ Some holds → known_at known place ≡ Some holds
+known_item known i place held holds at is lt e = ap (known_at known) at ∙ get_or_default known i None held lt ∙ sym is ∙ e
 
 lock_known : (b : Bool) (o : Option CallFault) → (if b then o else Some UnknownLock) ≡ None → b ≡ true
 lock_known true o e = refl

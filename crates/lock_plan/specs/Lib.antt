@@ -1,3 +1,4 @@
+pub mod HoldNodes
 pub mod Holds
 pub mod Signals
 pub mod Ways

@@ -9,11 +9,12 @@ ghost use Rattle.lock_plan.specs.CallFaults.{is_of_kind, is_over, lack_of, fault
 
 use crate::call::{PlanCall, is_write};
 use crate::fault::CallFault;
+use crate::holds::Holds;
 use crate::lock::PlanLock;
 use lock_modes::{Hold, Kind, LockStep, Mode, ModeStep};
 
 /// Returns why a call can never be made by a party with these holds.
-pub(crate) fn call_fault(locks: &[PlanLock], holds: &[Hold], call: PlanCall) -> Option<CallFault>
+pub(crate) fn call_fault(locks: &[PlanLock], holds: &Holds, call: PlanCall) -> Option<CallFault>
     requires long { length holds.now ≡ length locks.now }
     requires few { (l : ℕ) → tokens (get_or holds.now l no_hold).bag < 2 ^ 64 }
     ensures { result ≡ call_fault locks.now holds.now call }
@@ -21,7 +22,7 @@ pub(crate) fn call_fault(locks: &[PlanLock], holds: &[Hold], call: PlanCall) -> 
     if call.lock >= locks.len() {
         return Some(CallFault::UnknownLock);
     }
-    fault_on(locks[call.lock], holds[call.lock], call.step)
+    fault_on(locks[call.lock], holds.hold(call.lock), call.step)
 }
 
 /// Returns whether the call acquires a fair lock. Such a lock refuses a try while another party waits in line, and a plan

@@ -1,6 +1,6 @@
 -- A lock that all parties together never read as often as its limit.
 use Rattle.std.proofs.Common.{◌≡◌, ◌∙◌, ℕ, zero, suc, ◌+◌, ◌*◌, ◌/◌, ◌-◌, ◌<◌, ◌++◌, inl, inr, Bool, true, false, not, ◌&&◌, List, [], ◌∷◌, length, map, get_or, Option, None, Vec, refl, ap, sym, subst, mul_comm, arith}
-use Rattle.std.specs.Prelude.{nat_lt, option_map}
+use Rattle.std.specs.Prelude.{nat_lt}
 use Rattle.std.specs.Global.{Global}
 use Rattle.std.specs.List.{list_all, list_any}
 use Rattle.std.proofs.Math.Nat.{div-mul-le_self}
@@ -15,26 +15,26 @@ use Rattle.lock_plan.specs.Worlds.{no_lock}
 use Rattle.lock_plan_order.specs.LockOrders.{IsLenientAmong, held_in, is_plain, reads_at_most}
 
 module _ (lock most : ℕ) where
-  abbrev at_most : Option (Vec Hold Global) → Bool
-  at_most here = reads_at_most lock most (option_map (λ v. v.items) here)
+  abbrev at_most : Option (List Hold) → Bool
+  at_most here = reads_at_most lock most here
 
-  abbrev all_at_most : Vec (Option (Vec Hold Global)) Global → Bool
+  abbrev all_at_most : Vec (Option (List Hold)) Global → Bool
   all_at_most held = list_all at_most held.items
 
-  in_program : (held : List (Option (Vec Hold Global))) → list_all at_most held ≡ true → (place : ℕ)
-      → reads_at_most lock most (get_or (map (option_map (λ v. v.items)) held) place None) ≡ true
+  in_program : (held : List (Option (List Hold))) → list_all at_most held ≡ true → (place : ℕ)
+      → reads_at_most lock most (get_or held place None) ≡ true
   in_program [] e place = refl
   in_program (here ∷ held) e zero = (and_parts (at_most here) (list_all at_most held) e).0
   in_program (here ∷ held) e (suc place) = in_program held (and_parts (at_most here) (list_all at_most held) e).1 place
 
-  everywhere : (known : List (Vec (Option (Vec Hold Global)) Global)) → list_all all_at_most known ≡ true → (program place : ℕ)
+  everywhere : (known : List (Vec (Option (List Hold)) Global)) → list_all all_at_most known ≡ true → (program place : ℕ)
       → reads_at_most lock most (known_at (get_or (map held_in known) program []) place) ≡ true
   everywhere [] e program place = refl
   everywhere (held ∷ known) e zero place = in_program held.items (and_parts (all_at_most held) (list_all all_at_most known) e).0 place
   everywhere (held ∷ known) e (suc program) place =
       everywhere known (and_parts (all_at_most held) (list_all all_at_most known) e).1 program place
 
-pub lenient_is : (lock : PlanLock) (many : List Bool) (known : List (Vec (Option (Vec Hold Global)) Global)) (number most : ℕ)
+pub lenient_is : (lock : PlanLock) (many : List Bool) (known : List (Vec (Option (List Hold)) Global)) (number most : ℕ)
     → is_plain lock many ≡ true → most ≡ (lock.limit - 1) / length known → list_all (all_at_most number most) known ≡ true
     → IsLenientAmong lock many (map held_in known) number
 lenient_is lock many known number most plain is reads =

@@ -1,3 +1,4 @@
+pub mod FirstHeld
 pub mod LockOrders
 pub mod FewReads
 pub mod WaitLists

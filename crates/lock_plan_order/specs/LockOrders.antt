@@ -1,5 +1,5 @@
 -- What a look for an order finds, whatever parties run the programs.
-use Rattle.std.specs.Prelude.{◌≡◌, ◌≢◌, ℕ, ◌<◌, ◌≤◌, ◌==◌, Bool, true, false, not, ◌&&◌, ⊤, List, [], length, map, Option, option_map, Some, None, Ok, nat_le, nat_lt, Vec}
+use Rattle.std.specs.Prelude.{◌≡◌, ◌≢◌, ℕ, ◌<◌, ◌≤◌, ◌==◌, Bool, true, false, not, ◌&&◌, ⊤, List, [], length, map, Option, Some, None, Ok, nat_le, nat_lt, Vec}
 use Rattle.std.specs.Global.{Global}
 use Rattle.std.specs.List.{list_all, list_any, position}
 use Rattle.std.specs.Option.{unwrap_or}
@@ -27,8 +27,8 @@ abbrev pub none_reentrant : List PlanLock → Bool
 none_reentrant locks = list_all (λ lock. not (is_reentrant lock.kind)) locks
 
 -- what a party is known to hold at each place
-abbrev pub held_in : Vec (Option (Vec Hold Global)) Global → Known
-held_in held = map (option_map (λ v. v.items)) held.items
+abbrev pub held_in : Vec (Option (List Hold)) Global → Known
+held_in held = held.items
 
 -- what a party with each of the programs holds
 abbrev pub AreKnown : List PlanLock → List (List ProgramPlace) → List Known → Type 0

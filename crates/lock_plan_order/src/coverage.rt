@@ -1,5 +1,5 @@
 //! Which locks and acts an order covers.
-ghost use Rattle.std.specs.Prelude.{◌≡◌, map, not, option_map, IsTrue, List, Some, []};
+ghost use Rattle.std.specs.Prelude.{◌≡◌, map, not, IsTrue, List, Some, []};
 ghost use Rattle.std.proofs.Common.{get_or};
 ghost use Rattle.std.specs.List.{list_all};
 ghost use Rattle.lock_modes.specs.declared.hold.Hold.{Hold as SpecHold};
@@ -9,8 +9,8 @@ ghost use Rattle.lock_plan_laws.specs.Ranks.{is_ranked_step};
 ghost use Rattle.lock_plan_order.specs.LockOrders.{AreCovered, held_in};
 
 use crate::lookups::{are_free, held_of, program_of};
-use lock_modes::{Hold, LockStep, Mode, ModeStep};
-use lock_plan::{Act, Block, PlanLock, ProgramPlace, act_in};
+use lock_modes::{LockStep, Mode, ModeStep};
+use lock_plan::{Act, Block, Holds, PlanLock, ProgramPlace, act_in};
 
 /// Returns whether machines can be the locks.
 pub(crate) fn fit_machines(locks: &[PlanLock]) -> bool
@@ -20,7 +20,7 @@ pub(crate) fn fit_machines(locks: &[PlanLock]) -> bool
 }
 
 /// Returns whether an order covers each act of the programs.
-pub(crate) fn are_covered(programs: &[Vec<ProgramPlace>], known: &[Vec<Option<Vec<Hold>>>]) -> bool
+pub(crate) fn are_covered(programs: &[Vec<ProgramPlace>], known: &[Vec<Option<Holds>>]) -> bool
     ensures { IsTrue result → AreCovered (map (λ v. v.items) programs.now) (map held_in known.now) }
 {
     for program in 0..programs.len() {
@@ -32,8 +32,8 @@ pub(crate) fn are_covered(programs: &[Vec<ProgramPlace>], known: &[Vec<Option<Ve
 }
 
 /// Returns whether an order covers the acts of a program, at each place of which the holds are known.
-fn covers_from(program: &[ProgramPlace], known: &[Option<Vec<Hold>>]) -> bool
-    ensures { result ≡ covers_from program.now 0 (map (option_map (λ v. v.items)) known.now) }
+fn covers_from(program: &[ProgramPlace], known: &[Option<Holds>]) -> bool
+    ensures { result ≡ covers_from program.now 0 known.now }
 {
     let mut place = 0usize;
     for held in known {
@@ -46,24 +46,29 @@ fn covers_from(program: &[ProgramPlace], known: &[Option<Vec<Hold>>]) -> bool
 }
 
 /// Returns whether an order covers the act where its party has these holds, if they are known.
-pub(crate) fn covers_at(here: Option<Act>, held: &Option<Vec<Hold>>) -> bool
-    ensures { result ≡ covers_at here (option_map (λ v. v.items) held.now) }
+pub(crate) fn covers_at(here: Option<Act>, held: &Option<Holds>) -> bool
+    ensures { result ≡ covers_at here held.now }
 {
     match held {
         None => true,
-        Some(holds) => is_silent(holds.as_slice()) && covers(holds.as_slice(), here),
+        Some(holds) => is_silent(holds) && covers(holds, here),
     }
 }
 
 /// Returns whether a party with these holds has announced itself on no lock.
-fn is_silent(holds: &[Hold]) -> bool
+fn is_silent(holds: &Holds) -> bool
     ensures { result ≡ list_all (λ h. not h.announced) holds.now }
 {
-    holds.iter().all(|hold| !hold.announced)
+    for lock in 0..holds.len() {
+        if holds.hold(lock).announced {
+            return false;
+        }
+    }
+    true
 }
 
 /// Returns whether an order covers the act where its party has these holds.
-fn covers(holds: &[Hold], here: Option<Act>) -> bool
+fn covers(holds: &Holds, here: Option<Act>) -> bool
     ensures { result ≡ covers holds.now here }
 {
     match here {

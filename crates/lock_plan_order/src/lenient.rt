@@ -1,13 +1,13 @@
 //! Which locks may refuse any mode next to any hold.
-ghost use Rattle.std.specs.Prelude.{◌≡◌, ◌&&◌, nat_le, nat_lt, not, IfOk, IsTrue, map, option_map};
+ghost use Rattle.std.specs.Prelude.{◌≡◌, ◌&&◌, nat_le, nat_lt, not, IfOk, IsTrue, map};
 ghost use Rattle.std.proofs.Common.{get_or};
 ghost use Rattle.std.specs.List.{list_all, list_any};
 ghost use Rattle.lock_modes.specs.Modes.{readers};
 ghost use Rattle.lock_plan_order.specs.LockOrders.{AreStrict, IsLenientAmong, held_in, is_plain, reads_at_most};
 
-use crate::lookups::{bag_of, lock_at};
-use lock_modes::{Bag, Hold};
-use lock_plan::PlanLock;
+use crate::lookups::lock_at;
+use lock_modes::Bag;
+use lock_plan::{Holds, PlanLock};
 use std::alloc::{AllocError, Global};
 
 /// Returns for each lock whether it may refuse any mode next to any hold: by its line, its bar, or the number of its readers.
@@ -15,7 +15,7 @@ pub(crate) fn strict_locks(
     alloc: Global,
     locks: &[PlanLock],
     many: &[bool],
-    known: &[Vec<Option<Vec<Hold>>>],
+    known: &[Vec<Option<Holds>>],
 ) -> Result<Vec<bool>, AllocError>
     ensures { IfOk result (λ strict. AreStrict locks.now many.now (map held_in known.now) strict.items) }
 {
@@ -27,12 +27,7 @@ pub(crate) fn strict_locks(
 }
 
 /// Returns whether a lock has neither a line nor a bar, and all parties together never have as many reads as its limit.
-fn is_lenient(
-    lock: PlanLock,
-    number: usize,
-    many: &[bool],
-    known: &[Vec<Option<Vec<Hold>>>],
-) -> bool
+fn is_lenient(lock: PlanLock, number: usize, many: &[bool], known: &[Vec<Option<Holds>>]) -> bool
     ensures { IsTrue result → IsLenientAmong lock many.now (map held_in known.now) number }
 {
     if !is_plain(lock, many) || known.is_empty() {
@@ -57,26 +52,26 @@ fn some_many(many: &[bool]) -> bool
 }
 
 /// Returns whether no party ever reads a lock more often than this.
-fn all_read_at_most(known: &[Vec<Option<Vec<Hold>>>], lock: usize, most: u64) -> bool
-    ensures { result ≡ list_all (λ held. list_all (λ here. reads_at_most lock most (option_map (λ v. v.items) here)) held.items) known.now }
+fn all_read_at_most(known: &[Vec<Option<Holds>>], lock: usize, most: u64) -> bool
+    ensures { result ≡ list_all (λ held. list_all (λ here. reads_at_most lock most here) held.items) known.now }
 {
     known
         .iter()
         .all(|held| program_reads_at_most(held.as_slice(), lock, most))
 }
 
-fn program_reads_at_most(held: &[Option<Vec<Hold>>], lock: usize, most: u64) -> bool
-    ensures { result ≡ list_all (λ here. reads_at_most lock most (option_map (λ v. v.items) here)) held.now }
+fn program_reads_at_most(held: &[Option<Holds>], lock: usize, most: u64) -> bool
+    ensures { result ≡ list_all (λ here. reads_at_most lock most here) held.now }
 {
     held.iter().all(|here| reads_at_most(here, lock, most))
 }
 
-fn reads_at_most(here: &Option<Vec<Hold>>, lock: usize, most: u64) -> bool
-    ensures { result ≡ reads_at_most lock most (option_map (λ v. v.items) here.now) }
+fn reads_at_most(here: &Option<Holds>, lock: usize, most: u64) -> bool
+    ensures { result ≡ reads_at_most lock most here.now }
 {
     match here {
         None => true,
-        Some(holds) => is_at_most(bag_of(holds.as_slice(), lock), most),
+        Some(holds) => is_at_most(holds.hold(lock).bag, most),
     }
 }
 

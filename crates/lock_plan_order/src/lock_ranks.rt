@@ -1,5 +1,5 @@
 //! Whether all programs keep an order of the locks.
-ghost use Rattle.std.specs.Prelude.{◌≡◌, [], map, option_map, not, ◌&&◌, IsTrue};
+ghost use Rattle.std.specs.Prelude.{◌≡◌, [], map, not, ◌&&◌, IsTrue};
 ghost use Rattle.std.proofs.Common.{get_or};
 ghost use Rattle.std.specs.List.{list_all};
 ghost use Rattle.lock_plan.specs.Checks.{fit_machines};
@@ -9,14 +9,14 @@ ghost use Rattle.lock_plan_order.specs.LockOrders.{AreKept, AreKnown, IsKept, he
 use crate::coverage::{covers_at, fit_machines};
 use crate::lookups::{held_of, is_free, program_of};
 use lock_modes::{Hold, LockStep, ModeStep};
-use lock_plan::{Act, PlanLock, ProgramPlace, act_in};
+use lock_plan::{Act, Holds, PlanLock, ProgramPlace, act_in};
 
 /// Returns whether an order covers the locks, and each of the programs keeps it.
 pub(crate) fn is_kept(
     order: &[usize],
     locks: &[PlanLock],
     programs: &[Vec<ProgramPlace>],
-    known: &[Vec<Option<Vec<Hold>>>],
+    known: &[Vec<Option<Holds>>],
 ) -> bool
     requires { AreKnown locks.now (map (λ v. v.items) programs.now) (map held_in known.now) }
     ensures { IsTrue result → IsKept locks.now (map (λ v. v.items) programs.now) order.now }
@@ -35,11 +35,7 @@ fn none_reentrant(locks: &[PlanLock]) -> bool
 }
 
 /// Returns whether each of the programs keeps the order.
-fn are_kept(
-    order: &[usize],
-    programs: &[Vec<ProgramPlace>],
-    known: &[Vec<Option<Vec<Hold>>>],
-) -> bool
+fn are_kept(order: &[usize], programs: &[Vec<ProgramPlace>], known: &[Vec<Option<Holds>>]) -> bool
     ensures { IsTrue result → AreKept order.now (map (λ v. v.items) programs.now) (map held_in known.now) }
 {
     for party in 0..programs.len() {
@@ -51,8 +47,8 @@ fn are_kept(
 }
 
 /// Returns whether a program keeps the order, at each place of which the holds are known.
-fn keeps_from(order: &[usize], program: &[ProgramPlace], known: &[Option<Vec<Hold>>]) -> bool
-    ensures { result ≡ keeps_from (rank_in order.now) program.now 0 (map (option_map (λ v. v.items)) known.now) }
+fn keeps_from(order: &[usize], program: &[ProgramPlace], known: &[Option<Holds>]) -> bool
+    ensures { result ≡ keeps_from (rank_in order.now) program.now 0 known.now }
 {
     let mut place = 0usize;
     for held in known {
@@ -65,17 +61,17 @@ fn keeps_from(order: &[usize], program: &[ProgramPlace], known: &[Option<Vec<Hol
 }
 
 /// Returns whether an act keeps the order where its party has these holds, if they are known.
-fn keeps_at(order: &[usize], here: Option<Act>, held: &Option<Vec<Hold>>) -> bool
-    ensures { result ≡ keeps_at (rank_in order.now) here (option_map (λ v. v.items) held.now) }
+fn keeps_at(order: &[usize], here: Option<Act>, held: &Option<Holds>) -> bool
+    ensures { result ≡ keeps_at (rank_in order.now) here held.now }
 {
     match held {
         None => true,
-        Some(holds) => covers_at(here, held) && keeps_order(order, holds.as_slice(), here),
+        Some(holds) => covers_at(here, held) && keeps_order(order, holds, here),
     }
 }
 
 /// Returns whether an act keeps the order where its party has these holds.
-fn keeps_order(order: &[usize], holds: &[Hold], here: Option<Act>) -> bool
+fn keeps_order(order: &[usize], holds: &Holds, here: Option<Act>) -> bool
     ensures { result ≡ keeps_order (rank_in order.now) holds.now here }
 {
     match here {
@@ -85,7 +81,7 @@ fn keeps_order(order: &[usize], holds: &[Hold], here: Option<Act>) -> bool
 }
 
 /// Returns whether a call keeps the order where its party has these holds.
-fn goes_up(order: &[usize], holds: &[Hold], lock: usize, step: LockStep) -> bool
+fn goes_up(order: &[usize], holds: &Holds, lock: usize, step: LockStep) -> bool
     ensures { result ≡ goes_up (rank_in order.now) holds.now lock step }
 {
     match step {
@@ -95,15 +91,13 @@ fn goes_up(order: &[usize], holds: &[Hold], lock: usize, step: LockStep) -> bool
 }
 
 /// Returns whether a lock is above all locks that are held.
-fn is_above(order: &[usize], lock: usize, holds: &[Hold]) -> bool
+fn is_above(order: &[usize], lock: usize, holds: &Holds) -> bool
     ensures { result ≡ is_above (rank_in order.now) lock 0 holds.now }
 {
-    let mut held = 0usize;
-    for hold in holds {
-        if !is_below(order, lock, held, *hold) {
+    for held in 0..holds.len() {
+        if !is_below(order, lock, held, holds.hold(held)) {
             return false;
         }
-        held += 1;
     }
     true
 }

@@ -2,6 +2,7 @@
 ghost use Rattle.std.specs.Prelude.{◌≡◌, ◌==◌, [], map, not, nat_lt, option_map};
 ghost use Rattle.std.proofs.Common.{get_or};
 ghost use Rattle.std.specs.List.{list_all};
+ghost use Rattle.std.specs.Option.{unwrap_or};
 ghost use Rattle.lock_modes.specs.Holds.{no_hold};
 ghost use Rattle.lock_modes.specs.Modes.{tokens};
 ghost use Rattle.lock_plan.specs.Worlds.{no_lock};
@@ -9,7 +10,7 @@ ghost use Rattle.lock_plan_order.specs.LockOrders.{held_in};
 ghost use Rattle.lock_plan_order.specs.WaitChecks.{holds_at};
 
 use lock_modes::{Bag, Hold, Kind};
-use lock_plan::{PlanLock, ProgramPlace};
+use lock_plan::{Holds, PlanLock, ProgramPlace};
 
 /// Returns a program, or an empty one if there is none with this number.
 pub(crate) fn program_of(programs: &[Vec<ProgramPlace>], number: usize) -> &[ProgramPlace]
@@ -22,8 +23,8 @@ pub(crate) fn program_of(programs: &[Vec<ProgramPlace>], number: usize) -> &[Pro
 }
 
 /// Returns what a party with a program holds at each place, or an empty list if there is no such program.
-pub(crate) fn held_of(known: &[Vec<Option<Vec<Hold>>>], number: usize) -> &[Option<Vec<Hold>>]
-    ensures { map (option_map (λ v. v.items)) result.now ≡ get_or (map held_in known.now) number [] }
+pub(crate) fn held_of(known: &[Vec<Option<Holds>>], number: usize) -> &[Option<Holds>]
+    ensures { result.now ≡ get_or (map held_in known.now) number [] }
 {
     match known.get(number) {
         Some(held) => held.as_slice(),
@@ -31,13 +32,13 @@ pub(crate) fn held_of(known: &[Vec<Option<Vec<Hold>>>], number: usize) -> &[Opti
     }
 }
 
-/// Returns what a party with a program holds at a place, or nothing if that is not known.
-pub(crate) fn holds_at(known: &[Vec<Option<Vec<Hold>>>], program: usize, place: usize) -> &[Hold]
-    ensures { result.now ≡ holds_at (map held_in known.now) program place }
+/// Returns what a party with a program holds at a place, if that is known.
+pub(crate) fn holds_at(known: &[Vec<Option<Holds>>], program: usize, place: usize) -> Option<&Holds>
+    ensures { unwrap_or (option_map (λ h. h.now) result) [] ≡ holds_at (map held_in known.now) program place }
 {
     match held_of(known, program).get(place) {
-        Some(Some(holds)) => holds.as_slice(),
-        _ => &[],
+        Some(Some(holds)) => Some(holds),
+        _ => None,
     }
 }
 
@@ -56,17 +57,13 @@ pub(crate) fn lock_at(locks: &[PlanLock], lock: usize) -> PlanLock
     }
 }
 
-/// Returns what is held of a lock.
-pub(crate) fn bag_of(holds: &[Hold], lock: usize) -> Bag
-    ensures { result ≡ (get_or holds.now lock no_hold).bag }
+/// Returns what is held of a lock, or nothing if the holds are not known.
+pub(crate) fn bag_of(holds: Option<&Holds>, lock: usize) -> Bag
+    ensures { result ≡ (get_or (unwrap_or (option_map (λ h. h.now) holds.entry) []) lock no_hold).bag }
 {
-    match holds.get(lock) {
-        Some(hold) => hold.bag,
-        None => Bag {
-            shared: 0,
-            exclusive: 0,
-            upgradable: 0,
-        },
+    match holds {
+        Some(holds) => holds.hold(lock).bag,
+        None => Bag::empty(),
     }
 }
 
@@ -85,8 +82,8 @@ pub(crate) fn is_free(hold: Hold) -> bool
 }
 
 /// Returns whether a party with these holds holds nothing.
-pub(crate) fn are_free(holds: &[Hold]) -> bool
+pub(crate) fn are_free(holds: &Holds) -> bool
     ensures { result ≡ list_all (λ h. tokens h.bag == 0) holds.now }
 {
-    holds.iter().all(|hold| is_free(*hold))
+    holds.first_held().is_none()
 }

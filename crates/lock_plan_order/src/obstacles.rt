@@ -1,9 +1,7 @@
 //! Where an order of the locks says nothing of a plan. No proof rests on these functions.
 use crate::coverage::covers_act;
 use crate::lock_order::Obstacle;
-use crate::lookups::is_free;
-use lock_modes::Hold;
-use lock_plan::{Act, PlanLock, ProgramPlace, Signal};
+use lock_plan::{Act, Holds, PlanLock, ProgramPlace, Signal};
 use std::alloc::AllocError;
 
 /// Adds each lock that is no machine's, the first act that an order does not cover, and the first party that ends while it holds
@@ -12,7 +10,7 @@ pub(crate) fn add_obstacles(
     found: &mut Vec<Obstacle>,
     locks: &[PlanLock],
     programs: &[Vec<ProgramPlace>],
-    known: &[Vec<Option<Vec<Hold>>>],
+    known: &[Vec<Option<Holds>>],
 ) -> Result<(), AllocError> {
     for lock in 0..locks.len() {
         if !locks[lock].fits_machine() {
@@ -45,7 +43,7 @@ fn first_uncovered(programs: &[Vec<ProgramPlace>]) -> Option<Obstacle> {
 }
 
 /// Returns the first party that ends while it holds a lock, and that lock.
-fn first_end(programs: &[Vec<ProgramPlace>], known: &[Vec<Option<Vec<Hold>>>]) -> Option<Obstacle> {
+fn first_end(programs: &[Vec<ProgramPlace>], known: &[Vec<Option<Holds>>]) -> Option<Obstacle> {
     for party in 0..programs.len() {
         if let Some(lock) = held_at_end(known, party, programs[party].len()) {
             return Some(Obstacle::Ends(party, lock));
@@ -55,9 +53,9 @@ fn first_end(programs: &[Vec<ProgramPlace>], known: &[Vec<Option<Vec<Hold>>>]) -
 }
 
 /// Returns the first lock that a party holds at its end.
-fn held_at_end(known: &[Vec<Option<Vec<Hold>>>], party: usize, end: usize) -> Option<usize> {
+fn held_at_end(known: &[Vec<Option<Holds>>], party: usize, end: usize) -> Option<usize> {
     match known.get(party)?.get(end) {
-        Some(Some(holds)) => holds.iter().position(|hold| !is_free(*hold)),
+        Some(Some(holds)) => holds.first_held(),
         _ => None,
     }
 }

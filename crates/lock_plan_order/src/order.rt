@@ -1,5 +1,5 @@
 //! The look for an order of the locks, or for ranks of the waits.
-ghost use Rattle.std.specs.Prelude.{◌≡◌, map, not, option_map, Ok, IfErr, IfOk, IsTrue};
+ghost use Rattle.std.specs.Prelude.{◌≡◌, map, not, Ok, IfErr, IfOk, IsTrue};
 ghost use Rattle.lock_plan.specs.Checks.{IsFault, parties_fault};
 ghost use Rattle.lock_plan_order.specs.LockOrders.{AreKnown, IsLockOrder, held_in};
 ghost use Rattle.lock_plan_order.specs.WaitChecks.{waits_of as all_waits};
@@ -13,8 +13,7 @@ use crate::obstacles::add_obstacles;
 use crate::setting::Setting;
 use crate::wait_place::WaitPlace;
 use crate::wait_ranks::{has_no_circle, waits_of};
-use lock_modes::Hold;
-use lock_plan::{PlanFault, PlanLock, ProgramPlace, known_holds};
+use lock_plan::{Holds, PlanFault, PlanLock, ProgramPlace, known_holds};
 use std::alloc::{AllocError, Global};
 
 /// The most waits of which each two are compared, which takes about a second.
@@ -48,7 +47,7 @@ fn all_known(
     alloc: Global,
     locks: &[PlanLock],
     programs: &[Vec<ProgramPlace>],
-) -> Result<Vec<Vec<Option<Vec<Hold>>>>, PlanFault>
+) -> Result<Vec<Vec<Option<Holds>>>, PlanFault>
     ensures known { IfOk result (λ known.
         AreKnown locks.now (map (λ v. v.items) programs.now) (map held_in known.items)) }
     ensures wrong { IfErr result (IsFault (parties_fault locks.now 0 (map (λ v. v.items) programs.now))) }
@@ -71,7 +70,7 @@ fn order_of(
     locks: &[PlanLock],
     programs: &[Vec<ProgramPlace>],
     many: &[bool],
-    known: &[Vec<Option<Vec<Hold>>>],
+    known: &[Vec<Option<Holds>>],
 ) -> Result<LockOrder, AllocError>
     requires { AreKnown locks.now (map (λ v. v.items) programs.now) (map held_in known.now) }
     ensures { IfOk result (IsLockOrder locks.now (map (λ v. v.items) programs.now) many.now) }
@@ -91,7 +90,7 @@ fn by_waits(
     locks: &[PlanLock],
     programs: &[Vec<ProgramPlace>],
     many: &[bool],
-    known: &[Vec<Option<Vec<Hold>>>],
+    known: &[Vec<Option<Holds>>],
     waits: &[WaitPlace],
 ) -> Result<LockOrder, AllocError>
     requires waits { waits.now ≡ all_waits (map (λ v. v.items) programs.now) (map held_in known.now) }

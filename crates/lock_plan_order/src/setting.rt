@@ -1,6 +1,7 @@
 //! Which waits may hold up which.
 ghost use Rattle.std.specs.Prelude.{◌≡◌, ◌+◌, ◌&&◌, map, nat_lt, not, option_map, true, false, []};
 ghost use Rattle.std.proofs.Common.{get_or};
+ghost use Rattle.std.specs.Option.{unwrap_or};
 ghost use Rattle.lock_modes.specs.Holds.{no_hold};
 ghost use Rattle.lock_modes.specs.Modes.{admits, readers, tokens};
 ghost use Rattle.lock_plan.specs.Worlds.{no_lock};
@@ -10,8 +11,8 @@ ghost use Rattle.lock_plan_order.specs.WaitChecks.{are_together, are_two, holds_
 
 use crate::lookups::{bag_of, holds_at, is_held, lock_at};
 use crate::wait_place::WaitPlace;
-use lock_modes::{Bag, Hold, Mode};
-use lock_plan::PlanLock;
+use lock_modes::{Bag, Mode};
+use lock_plan::{Holds, PlanLock};
 
 /// Locks, and what a party with each program holds at each place.
 #[derive(Clone, Copy)]
@@ -21,7 +22,7 @@ pub(crate) struct Setting<'a> {
     pub(crate) strict: &'a [bool],
     /// For each program whether any number of parties run it.
     pub(crate) many: &'a [bool],
-    pub(crate) known: &'a [Vec<Option<Vec<Hold>>>],
+    pub(crate) known: &'a [Vec<Option<Holds>>],
 }
 
 impl Setting<'_> {
@@ -69,8 +70,8 @@ fn is_strict(strict: &[bool], lock: usize) -> bool
 }
 
 /// Returns whether no lock is a gate that keeps two parties with these holds apart.
-fn meet_from(locks: &[PlanLock], hs: &[Hold], ks: &[Hold]) -> bool
-    ensures { result ≡ meet_from locks.now 0 hs.now ks.now }
+fn meet_from(locks: &[PlanLock], hs: Option<&Holds>, ks: Option<&Holds>) -> bool
+    ensures { result ≡ meet_from locks.now 0 (unwrap_or (option_map (λ h. h.now) hs.entry) []) (unwrap_or (option_map (λ h. h.now) ks.entry) []) }
 {
     let mut number = 0usize;
     for lock in locks {

@@ -1,12 +1,12 @@
 //! A place at which a party blocks for a lock while it holds one.
-ghost use Rattle.std.specs.Prelude.{◌≡◌, option_map, not};
+ghost use Rattle.std.specs.Prelude.{◌≡◌, not};
 ghost use Rattle.std.specs.List.{list_all};
 ghost use Rattle.lock_modes.specs.Modes.{tokens};
 ghost use Rattle.lock_plan_order.specs.WaitChecks.{holds_some, wait_at, wait_by, wait_of};
 
 use crate::lookups::are_free;
-use lock_modes::{Hold, LockStep, Mode, ModeStep};
-use lock_plan::Act;
+use lock_modes::{LockStep, Mode, ModeStep};
+use lock_plan::{Act, Holds};
 
 /// A party that runs the program blocks at the place for the lock, and holds something there.
 #[derive(Clone, Copy, PartialEq, Eq, Debug)]
@@ -23,14 +23,14 @@ impl WaitPlace {
         program: usize,
         place: usize,
         here: Option<Act>,
-        held: &Option<Vec<Hold>>,
+        held: &Option<Holds>,
     ) -> Option<WaitPlace>
-        ensures { result ≡ wait_at program place here (option_map (λ v. v.items) held.now) }
+        ensures { result ≡ wait_at program place here held.now }
     {
         match held {
             None => None,
             Some(holds) => {
-                if holds_some(holds.as_slice()) {
+                if holds_some(holds) {
                     WaitPlace::of(program, place, here)
                 } else {
                     None
@@ -63,7 +63,7 @@ impl WaitPlace {
     }
 }
 
-fn holds_some(holds: &[Hold]) -> bool
+fn holds_some(holds: &Holds) -> bool
     ensures { result ≡ holds_some holds.now }
 {
     !are_free(holds)

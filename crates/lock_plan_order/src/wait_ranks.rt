@@ -1,5 +1,5 @@
 //! Whether the waits of programs have ranks, each below those that may hold it up.
-ghost use Rattle.std.specs.Prelude.{◌≡◌, ◌&&◌, ◌++◌, [], map, nat_lt, not, option_map, IfOk, IsTrue, OnOk};
+ghost use Rattle.std.specs.Prelude.{◌≡◌, ◌&&◌, ◌++◌, [], map, nat_lt, not, IfOk, IsTrue, OnOk};
 ghost use Rattle.std.proofs.Common.{get_or};
 ghost use Rattle.std.specs.List.{list_all};
 ghost use Rattle.lock_plan_order.specs.LockOrders.{AreKnown, AreStrict, IsWithoutCircle, held_in};
@@ -9,15 +9,14 @@ use crate::coverage::{are_covered, fit_machines};
 use crate::lookups::{held_of, program_of};
 use crate::setting::Setting;
 use crate::wait_place::WaitPlace;
-use lock_modes::Hold;
-use lock_plan::{ProgramPlace, act_in};
+use lock_plan::{Holds, ProgramPlace, act_in};
 use std::alloc::{AllocError, Global};
 
 /// Returns the places at which a party of a program blocks for a lock while it holds one.
 pub(crate) fn waits_of(
     alloc: Global,
     programs: &[Vec<ProgramPlace>],
-    known: &[Vec<Option<Vec<Hold>>>],
+    known: &[Vec<Option<Holds>>],
 ) -> Result<Vec<WaitPlace>, AllocError>
     ensures { IfOk result (λ waits. waits.items ≡ all_waits (map (λ v. v.items) programs.now) (map held_in known.now)) }
 {
@@ -38,9 +37,9 @@ fn add_waits(
     waits: &mut Vec<WaitPlace>,
     number: usize,
     program: &[ProgramPlace],
-    known: &[Option<Vec<Hold>>],
+    known: &[Option<Holds>],
 ) -> Result<(), AllocError>
-    ensures { OnOk result (waits.new.items ≡ waits.old.items ++ waits_in number program.now (map (option_map (λ v. v.items)) known.now)) }
+    ensures { OnOk result (waits.new.items ≡ waits.old.items ++ waits_in number program.now known.now) }
 {
     for place in 0..known.len() {
         if let Some(wait) = WaitPlace::at(number, place, act_in(program, place), &known[place]) {

@@ -1,7 +1,6 @@
 //! Parties that end while they hold a lock.
 ghost use Rattle.std.specs.Prelude.{◌<◌, length};
 
-use lock_modes::Hold;
 use lock_plan::Plan;
 use lock_plan_text::NamedPlan;
 use std::alloc::Global;
@@ -22,14 +21,9 @@ fn held_at_end(alloc: Global, plan: &Plan, party: usize) -> Option<usize>
 {
     let known = plan.known_holds(alloc, party).ok()?;
     match known.as_slice().last() {
-        Some(Some(holds)) => holds.as_slice().iter().position(|hold| is_held(*hold)),
+        Some(Some(holds)) => holds.first_held(),
         _ => None,
     }
-}
-
-/// Returns whether there is a token.
-fn is_held(hold: Hold) -> bool {
-    hold.bag.shared > 0 || hold.bag.exclusive > 0 || hold.bag.upgradable > 0
 }
 
 /// Makes the warning that a party ends while it holds a lock.

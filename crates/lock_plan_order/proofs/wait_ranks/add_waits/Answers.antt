@@ -1,6 +1,5 @@
-use Rattle.std.proofs.Common.{◌≡◌, ◌∙◌, ◌++◌, ◌∷◌, [], List, Option, Some, None, ap, append-nil, map, sym}
-use Rattle.std.specs.Prelude.{option_map}
-use Rattle.std.proofs.lemmas.List.{get_or-map}
+use Rattle.std.proofs.Common.{◌≡◌, ◌∙◌, ◌++◌, ◌∷◌, [], List, Option, Some, None, ap, append-nil, sym}
+use Rattle.std.proofs.lemmas.List.{get_or_default}
 use Rattle.lock_modes.specs.declared.hold.Hold.{Hold}
 use Rattle.lock_plan.specs.declared.program.Act.{Act}
 use Rattle.lock_plan.specs.Worlds.{act_in}
@@ -14,10 +13,9 @@ pub loop-place-preserved : goal.loop-place-preserved
 loop-place-preserved c =
     let n = c.loop-place.place in
     let before = c.args.waits.now.items in
-    let there = wait_in c.args.number c.args.program.now (map (option_map (λ v. v.items)) c.args.known.now) in
-    let holds : Option (List Hold) = option_map (λ v. v.items) c.index-known-place.result in
-    let held = get_or-map (option_map (λ v. v.items)) c.args.known.now n c.index-known-place.result None c.loop-place-test.true
-    ∙ ap (option_map (λ v. v.items)) (sym c.index-known-place.is) in
+    let there = wait_in c.args.number c.args.program.now c.args.known.now in
+    let holds : Option (List Hold) = c.index-known-place.result in
+    let held = get_or_default c.args.known.now n None holds c.loop-place-test.true ∙ sym c.index-known-place.is in
     let is : there n ≡ c.at.result =
     ap (wait_at c.args.number n (act_in c.args.program.now n)) held ∙ ap (λ (here : Option Act). wait_at c.args.number n here holds) (sym c.act_in.ensures)
     ∙ sym c.at.ensures in
