@@ -12,23 +12,29 @@ import ctypes
 import functools
 import itertools
 import pathlib
+import re
 import sys
 
 sys.dont_write_bytecode = True
-sys.path.insert(0, f"{pathlib.Path(__file__).resolve().parent.parent}/model")
+ROOT = pathlib.Path(__file__).resolve().parent.parent
+sys.path.insert(0, f"{ROOT}/model")
 from explorer import Step, Threads, load, report, update
 
 U64, U32, U8 = ctypes.c_uint64, ctypes.c_uint32, ctypes.c_uint8
-(LOAD, EXCHANGE, SUBTRACT, STORE, PARK, PARK_NEXT, WAKE_ONE, WAKE_ALL, WAKE_NEXT,
- SPIN, YIELD, REFUSED, DONE, UNLOCK, LOCK) = range(15)
+(LOAD, EXCHANGE, SUBTRACT, OR, PARK, PARK_NEXT, WAKE_ONE, WAKE_ALL, WAKE_NEXT,
+ SPIN, YIELD, REFUSED, DONE, UNLOCK, LOCK, PARK_READER, WAKE_TURN) = range(17)
+IS_LATE, IS_OVER = 32, 64  # the answers to a sleep after its deadline, and after the time of a brief sleep
+PARKS = {PARK: "asleep", PARK_NEXT: "next", PARK_READER: "reader"}
 ACQUIRE, TIMED, TRY, RELEASE, RELEASED, EVENT = range(6)
 SHARED, EXCLUSIVE, UPGRADABLE, UPGRADE, TO_UPGRADABLE, UPGRADABLE_TO_SHARED = range(6)
 TO_SHARED = UPGRADE
 WAIT, NOTIFY_ONE, NOTIFY_ALL = range(3)
-LAST_EPOCH = 2**32 - 1
+LAST_EPOCH, ONE_WAIT = 2**32 - 1, 2**40
+REGISTERED = 2  # the stage of a wait that has registered
 NO_PAUSES = 1000
-WAKES = {WAKE_ONE: "one", WAKE_ALL: "all", WAKE_NEXT: "next"}
-FREE, TOKENS = 2, 3  # threads share the word, or the count, the epoch, a mutex and tokens
+PREFIX = re.search(r'"(lock_c_\d+_)"', (ROOT / "foreign/c/lock_c.h").read_text(encoding="utf-8"))[1]
+WAKES = {WAKE_ONE: "one", WAKE_ALL: "all", WAKE_NEXT: "next", WAKE_TURN: "turn"}
+WORD, FREE, TOKENS = range(3)  # threads share the word, or that of a condition variable, a mutex and tokens
 
 
 def structure(name, fields):
@@ -36,9 +42,10 @@ def structure(name, fields):
 
 
 Call = structure("Call", [("readers", U64), ("loaded", U64), ("left", U64), ("stage", U32), ("want", U32), ("down", U32),
-                          ("pauses", U32), ("blocks", U8), ("announces", U8), ("announced", U8), ("late", U8), ("slept", U8)])
-Event = structure("Event", [("loaded", U32), ("epoch", U32), ("stage", U32), ("all", U8), ("late", U8)])
+                          ("pauses", U32), ("blocks", U8), ("announces", U8), ("announced", U8), ("late", U8), ("sleeps", U8), ("turned", U8)])
+Event = structure("Event", [("loaded", U64), ("epoch", U64), ("stage", U32), ("lost", U32), ("all", U8), ("late", U8)])
 Action = structure("Action", [("action", U32), ("place", U32), ("first", U32), ("second", U32)])
+EventAction = structure("EventAction", [("action", U64), ("first", U64), ("second", U64)])
 
 
 def values(it):
@@ -46,11 +53,11 @@ def values(it):
 
 
 def made(name, call, *words):
-    """The call and its next step, after this function of the library."""
-    function = LIBRARY[name]
-    function.restype = Action
+    """The call and its next step, after this function of the library: the action, and its numbers."""
+    function = LIBRARY[PREFIX + name]
+    function.restype = EventAction if isinstance(call, Event) else Action
     step = function(ctypes.byref(call), *words)
-    return values(call), values(step)
+    return values(call), (step.action, step.first, step.second)
 
 
 @functools.lru_cache(None)
@@ -58,13 +65,15 @@ def answered(kind, call, found):
     """The call and its next step after the answer. A call on a lock has made its pauses."""
     call = kind(*call)
     if kind is Event:
-        return made("lock_c_next_event", call, U32(found))
+        return made("next_event", call, U64(found))
     call.pauses = NO_PAUSES
-    return made("lock_c_next", call, U32(found))
+    return made("next", call, U32(found))
 
 
 class Calls(Threads):
     """Threads that make calls of the library. What is `lost` is a kind of wake-up. With `early`, sleeps end early."""
+
+    ones = 2**32 - 1  # the bits of the word
 
     def __init__(self, early, lost):
         super().__init__()
@@ -72,28 +81,27 @@ class Calls(Threads):
 
     def go(self, then, act, call, step):
         """A call from this step on. `then` tells the calls after it."""
-        action, place, first, second = step
+        action, first, second = step
         if action in (REFUSED, DONE):
             return then(action)
         assert act != RELEASED or action in WAKES, "a call goes on after its release"
-        if action in (PARK, PARK_NEXT):
+        if action in PARKS:
             found = 0
-            if (yield load(place, lambda number: number == first)):
-                ends = [0] * self.early + [1] * (act == TIMED)
-                kind = "next" if action == PARK_NEXT else "asleep"
-                found = yield Step(lambda *now: [(now, it) for it in ends], kind)
+            if (yield load(WORD, lambda number: self.number_of(number) == first)):
+                ends = [0] * self.early + [IS_LATE] * (act == TIMED) + [IS_OVER] * second
+                found = yield Step(lambda *now: [(now, it) for it in ends], PARKS[action])
                 if found is None:  # woken, and perhaps late as well
-                    found = yield Step(lambda *now: [(now, it) for it in (0, 1)[:1 + (act == TIMED)]])
+                    found = yield Step(lambda *now: [(now, it) for it in (0, IS_LATE)[:1 + (act == TIMED)]])
         elif action in (LOCK, UNLOCK):
             found = (yield update(FREE, lambda free: None if free == (action == UNLOCK) else not free)) or 0
-        elif action in (LOAD, EXCHANGE, SUBTRACT, STORE):
+        elif action in (LOAD, EXCHANGE, SUBTRACT, OR):
             change = {LOAD: lambda now: now, EXCHANGE: lambda now: second if now == first else now,
-                      SUBTRACT: lambda now: now - first & 0xffffffff, STORE: lambda _: first}[action]
-            found = yield update(place, change, lambda now: 0 if action == STORE else now)
+                      SUBTRACT: lambda now: now - first & self.ones, OR: lambda now: now | first}[action]
+            found = yield update(WORD, change, lambda now: now)
             if act == RELEASE and (action == SUBTRACT or action == EXCHANGE and found == first):
                 act = RELEASED
         else:
-            found = yield load(place, lambda _: 0, wakes="" if action == self.lost else WAKES.get(action, ""))
+            found = yield load(WORD, lambda _: 0, wakes="" if action == self.lost else WAKES.get(action, ""))
         return [(self.go, then, act, *answered(Event if act == EVENT else Call, call, found))]
 
     def fault(self, state, after):
@@ -103,6 +111,11 @@ class Calls(Threads):
         return "stuck" if is_stuck else "a wrong word" if self.is_wrong(bool(steps), *shared) else None
 
     @staticmethod
+    def number_of(word):
+        """What a sleep compares."""
+        return word
+
+    @staticmethod
     def goes_on(step, shared):
         """Whether the thread can make its step. A sleep ends by its deadline, and need not end early."""
         return any(step.kind == "" or found for _, found in step.act(*shared))
@@ -110,6 +123,8 @@ class Calls(Threads):
 
 class Lock(Calls):
     """Threads at a lock for so many readers, each with a program."""
+
+    sleeps = 0
 
     def __init__(self, readers, programs, early=False, lost=None):
         super().__init__(early, lost)
@@ -125,9 +140,10 @@ class Lock(Calls):
             return []
         (act, mode), *rest = program
         if act == RELEASE:
-            begun = made("lock_c_release", Call(), U32(self.readers), U32(mode))
+            begun = made("release", Call(), U32(self.readers), U32(mode))
         else:
-            begun = made("lock_c_acquire", Call(), U32(self.readers), U32(mode), U8(act != TRY), U8(mode == EXCLUSIVE))
+            call, step = made("acquire", Call(), U32(self.readers), U32(mode), U8(act != TRY), U8(mode == EXCLUSIVE))
+            begun = (*call[:-2], self.sleeps, call[-1]), step
         # a refused thread makes no more calls, but keeps no upgradable hold
         refused = [(RELEASE, UPGRADABLE)] * (act != RELEASE and mode == UPGRADE)
         return [(self.go, functools.partial(self.after, tuple(rest), tuple(refused)), act, *begun)]
@@ -136,23 +152,41 @@ class Lock(Calls):
         return self.acts(refused if action == REFUSED else rest)
 
     def is_wrong(self, going, word):
-        readers, exclusive, upgradable = word >> 4, word >> 1 & 1, word & 1
+        readers, exclusive, upgradable = word >> 5, word >> 1 & 1, word & 1
         is_sum = readers <= self.readers and (not exclusive or not readers) and upgradable <= readers
-        return not is_sum or not going and word & ~8
+        return not is_sum or not going and word & ~16
+
+
+class Tired(Lock):
+    """Threads that have slept four times: in a mutex too, they set the bar, and as readers they take turns."""
+
+    sleeps = 4
 
 
 class Tokens(Calls):
     """Threads at a condition variable, a mutex, and tokens.
 
-    A thread waits for a token, or adds one or as many as wait, and notifies.
+    A thread waits for a token, or adds one or as many as wait, and notifies. With an `epoch`, the first one waits in it.
     """
+
+    ones = 2**64 - 1
 
     def __init__(self, kinds, epoch=0, early=False, lost=None):
         super().__init__(early, lost)
         self.kinds, self.epoch = kinds, epoch
 
     def start(self):
-        return (0, self.epoch, True, 0), [[(self.begin, it)] for it in self.kinds]
+        threads = [[(self.begin, it)] for it in self.kinds]
+        if not self.epoch:
+            return (0, True, 0), threads
+        # the first thread has registered in this epoch, and holds the mutex
+        call = values(Event(epoch=self.epoch, stage=REGISTERED))
+        threads[0] = [(self.go, self.again, EVENT, call, (UNLOCK, 0, 0))]
+        return (ONE_WAIT + 2**32 + self.epoch, False, 0), threads
+
+    @staticmethod
+    def number_of(word):
+        return word % 2**32
 
     def begin(self, kind):
         yield update(FREE, lambda free: False if free else None)
@@ -160,7 +194,7 @@ class Tokens(Calls):
             return [(self.look,)]
         more = self.kinds.count(WAIT) if kind == NOTIFY_ALL else 1
         yield Step(lambda *now: [((*now[:FREE], True, now[TOKENS] + more), None)])
-        return self.calls(made("lock_c_notify", Event(), U8(kind == NOTIFY_ALL)), self.nothing)
+        return self.calls(made("notify", Event(), U8(kind == NOTIFY_ALL)), self.nothing)
 
     def look(self, _=None):
         """The thread holds the mutex. It takes a token, or waits."""
@@ -169,7 +203,7 @@ class Tokens(Calls):
 
         if (yield Step(act)):
             return []
-        return self.calls(made("lock_c_wait", Event()), self.again)
+        return self.calls(made("wait", Event()), self.again)
 
     def calls(self, begun, then):
         return [(self.go, then, EVENT, *begun)]
@@ -180,8 +214,8 @@ class Tokens(Calls):
     def nothing(self, _):
         return []
 
-    def is_wrong(self, going, count, epoch, free, tokens):
-        return min(count, epoch) < 0 or not going and (count, free, tokens) != (0, True, 0)
+    def is_wrong(self, going, word, free, tokens):
+        return not going and (word // ONE_WAIT, free, tokens) != (0, True, 0)
 
 
 def writes(act):
@@ -209,14 +243,21 @@ SOUND = [
     (Lock, 1, [WRITES * 2, HURRIES, WRITES]), (Lock, 2, [WRITES, HURRIES, READS]), (Lock, 2, [HURRIES, TIMED_READS, TIMED_UPGRADES]),
     (Lock, 2, [WRITES, TIMED_UPGRADES, READS]), (Lock, 1, [HURRIES, HURRIES, WRITES], EARLY),
     (Lock, 1, [TRIES, WRITES, WRITES]), (Lock, 2, [TRIES, READS, UPGRADES]),
+    (Tired, 1, [WRITES] * 3), (Tired, 1, [WRITES * 2, HURRIES, WRITES]), (Tired, 1, [HURRIES, HURRIES, WRITES], EARLY),
+    (Tired, 1, [TRIES, WRITES, WRITES]),
+    (Tired, 2, [WRITES, READS]), (Tired, 2, [WRITES, WRITES, READS]), (Tired, 2, [WRITES, READS, READS]), (Tired, 2, [WRITES, READS, LOOKS]),
+    (Tired, 2, [WRITES, HURRIES, READS]), (Tired, 2, [WRITES, HURRIES, TIMED_READS]), (Tired, 2, [WRITES, UPGRADES, TIMED_READS]),
+    (Tired, 2, [WRITES, [(TRY, SHARED), (RELEASE, SHARED)], READS]),
     (Tokens, [WAIT, NOTIFY_ONE]), (Tokens, ALL), (Tokens, ONES), (Tokens, [WAIT, *ALL]), (Tokens, ONES, LAST_EPOCH - 2),
-    (Tokens, ALL, LAST_EPOCH - 1), (Tokens, [WAIT, NOTIFY_ONE], LAST_EPOCH), (Tokens, ONES, 0, EARLY),
+    (Tokens, ONES, LAST_EPOCH - 1), (Tokens, ALL, LAST_EPOCH - 1), (Tokens, [WAIT, *ONES, NOTIFY_ONE], LAST_EPOCH - 1), (Tokens, ONES, 0, EARLY),
 ]
 STUCK = [
-    (Lock, 1, [WRITES] * 3, False, WAKE_ONE), (Lock, 2, [WRITES, READS], False, WAKE_ALL),
+    (Lock, 1, [WRITES] * 3, False, WAKE_ONE), (Lock, 2, [WRITES, LOOKS], False, WAKE_ALL),
     (Lock, 2, [UPGRADES, READS], False, WAKE_ALL), (Lock, 2, [WRITES, READS, READS], False, WAKE_NEXT),
     (Lock, 2, [WRITES, HURRIES, READS], False, WAKE_ALL),
-    (Tokens, [WAIT, NOTIFY_ONE], 0, False, WAKE_ONE), (Tokens, ALL, 0, False, WAKE_ALL),
+    (Tired, 1, [WRITES] * 3, False, WAKE_ONE), (Tired, 1, [WRITES] * 3, False, WAKE_NEXT),
+    (Tired, 2, [WRITES, READS], False, WAKE_TURN), (Tired, 2, [WRITES, WRITES, READS], False, WAKE_ALL),
+    (Tokens, [WAIT, NOTIFY_ONE], 0, False, WAKE_ONE), (Tokens, ALL, 0, False, WAKE_ALL), (Tokens, ONES, LAST_EPOCH - 1, False, WAKE_ALL),
 ]
 
 if __name__ == "__main__":

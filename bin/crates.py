@@ -1,4 +1,4 @@
-"""The crates of this repository, as crates.txt lists them, for bin/check and bin/vendor."""
+"""The crates of this repository, as crates.txt lists them, for the other scripts here."""
 import pathlib
 import re
 import shutil
@@ -23,6 +23,11 @@ def deps_of(row):
 
 
 LIBRARY = named(text_of(ROOT / "crates.txt"))
+
+
+def is_archive(name):
+    """Whether a crate is a static library."""
+    return "staticlib" in LIBRARY[name].partition(":")[0].split()
 
 
 def with_below(names):

@@ -15,20 +15,29 @@
 _Static_assert(PROVED_SHARED == 0 && PROVED_UPGRADE == 3, "the modes are the codes of an acquisition");
 _Static_assert(PROVED_UNLOCK_SHARED == 0 && PROVED_UPGRADABLE_TO_SHARED == 5, "the releases are the codes of a release");
 
-/* An archive of another version does not link. */
-__attribute__((used)) static uint32_t (*const version)(void) = lock_c_version_2;
+/* The bit set of a sleep that a bar keeps out, that of one that may pass it, and that of a reader. */
+enum { PLAIN = 1, NEXT = 2, READER = 4 };
 
-/* The bit set of a sleep that a bar keeps out, and that of one that may pass it. */
-enum { PLAIN = 1, NEXT = 2 };
+/* The nanoseconds of a brief sleep. */
+enum { BRIEF = 500000 };
 
-/* Sleeps while the word is the number. Returns whether the sleep ended by its deadline. A deadline that is no valid time has
- * passed. */
-static bool park(uint32_t *word, uint32_t number, int bits, const struct timespec *deadline) {
+static bool is_before(const struct timespec *a, const struct timespec *b) {
+    return a->tv_sec < b->tv_sec || (a->tv_sec == b->tv_sec && a->tv_nsec < b->tv_nsec);
+}
+
+/* Sleeps while the word is the number. Returns the answer to the step. A deadline that is no valid time has passed. */
+static uint32_t park(uint32_t *word, uint32_t number, bool is_brief, int bits, const struct timespec *deadline) {
+    struct timespec brief;
+    const struct timespec *end = deadline;
+    if (is_brief) {
+        brief = proved_deadline_in(BRIEF);
+        if (!deadline || is_before(&brief, deadline)) end = &brief;
+    }
     int saved = errno;
-    bool is_late = syscall(SYS_futex, word, FUTEX_WAIT_BITSET_PRIVATE, number, deadline, 0, bits) == -1
-        && deadline && (errno == ETIMEDOUT || errno == EINVAL);
+    bool is_over = syscall(SYS_futex, word, FUTEX_WAIT_BITSET_PRIVATE, number, end, 0, bits) == -1
+        && end && (errno == ETIMEDOUT || errno == EINVAL);
     errno = saved;
-    return is_late;
+    return !is_over ? 0 : end == deadline ? LOCK_IS_LATE : LOCK_IS_OVER;
 }
 
 /* Wakes at most so many threads that sleep in one of these bit sets. The word may be gone: its address alone is used. */
@@ -56,9 +65,18 @@ static bool has_passed(const struct timespec *deadline) {
     return now.tv_sec > deadline->tv_sec || (now.tv_sec == deadline->tv_sec && now.tv_nsec >= deadline->tv_nsec);
 }
 
-/* Makes a step on the word of a lock, or on both words of a condition variable, and returns its answer. */
-static uint32_t make(uint32_t *words, struct lock_step s, const struct timespec *deadline) {
-    uint32_t *place = words + s.place;
+struct timespec proved_deadline_in(uint64_t nanoseconds) {
+    struct timespec it;
+    clock_gettime(CLOCK_MONOTONIC, &it);
+    it.tv_sec += (time_t)(nanoseconds / 1000000000);
+    it.tv_nsec += (long)(nanoseconds % 1000000000);
+    if (it.tv_nsec > 999999999) it.tv_sec++, it.tv_nsec -= 1000000000;
+    return it;
+}
+
+/* Makes a step on the word of a lock, and returns its answer. */
+static uint32_t make(uint32_t *word, struct lock_step s, const struct timespec *deadline) {
+    uint32_t *place = word + s.place;
     uint32_t found = s.first;
     switch (s.action) {
     case LOCK_LOAD: return __atomic_load_n(place, __ATOMIC_SEQ_CST);
@@ -66,14 +84,15 @@ static uint32_t make(uint32_t *words, struct lock_step s, const struct timespec 
         __atomic_compare_exchange_n(place, &found, s.second, false, __ATOMIC_SEQ_CST, __ATOMIC_SEQ_CST);
         return found;
     case LOCK_SUBTRACT: return __atomic_fetch_sub(place, s.first, __ATOMIC_SEQ_CST);
-    case LOCK_STORE: __atomic_store_n(place, s.first, __ATOMIC_SEQ_CST); break;
-    case LOCK_PARK: return park(place, s.first, PLAIN, deadline);
-    case LOCK_PARK_NEXT: return park(place, s.first, NEXT, deadline);
+    case LOCK_PARK: return park(place, s.first, s.second, PLAIN, deadline);
+    case LOCK_PARK_NEXT: return park(place, s.first, s.second, NEXT, deadline);
+    case LOCK_PARK_READER: return park(place, s.first, s.second, READER, deadline);
     case LOCK_WAKE_ONE: wake(place, 1, FUTEX_BITSET_MATCH_ANY); break;
     case LOCK_WAKE_ALL: wake(place, INT_MAX, FUTEX_BITSET_MATCH_ANY); break;
     case LOCK_WAKE_NEXT: wake(place, INT_MAX, NEXT); break;
+    case LOCK_WAKE_TURN: wake(place, INT_MAX, NEXT | READER); break;
     case LOCK_SPIN: spin((uint64_t)1 << s.first % 32); break;
-    case LOCK_YIELD: sched_yield(); return has_passed(deadline);
+    case LOCK_YIELD: sched_yield(); return has_passed(deadline) ? LOCK_IS_LATE : 0;
     }
     return 0;
 }
@@ -85,34 +104,56 @@ static bool drive(uint32_t *word, struct lock_call *call, struct lock_step s, co
     return s.action == LOCK_DONE;
 }
 
-bool proved_acquire_rest(uint32_t *word, uint32_t readers, enum proved_mode mode, uint32_t refused, const struct timespec *deadline) {
+bool proved_acquire_rest_(uint32_t *word, uint32_t readers, enum proved_mode mode, uint32_t refused, const struct timespec *deadline) {
     struct lock_call call;
     lock_c_acquire(&call, readers, mode, 1, mode == PROVED_EXCLUSIVE); /* its first step, a load, is made */
     return drive(word, &call, lock_c_next(&call, refused), deadline);
 }
 
-void proved_release_rest(uint32_t *word, uint32_t readers, enum proved_release release, const uint32_t *made, int count) {
+bool proved_try_rest_(uint32_t *word, uint32_t readers, uint32_t found) {
+    struct lock_call call;
+    lock_c_acquire(&call, readers, PROVED_SHARED, 0, 0); /* its first step, a load, is made */
+    return drive(word, &call, lock_c_next(&call, found), 0);
+}
+
+void proved_release_rest_(uint32_t *word, uint32_t readers, enum proved_release release, const uint32_t *made, int count) {
     struct lock_call call;
     struct lock_step s = lock_c_release(&call, readers, release);
     for (int i = 0; i < count; i++) s = lock_c_next(&call, made[i]);
     drive(word, &call, s, 0);
 }
 
+/* Makes a step on the word of a condition variable, and returns its answer. Threads sleep on the low half. */
+static uint64_t make_event(uint64_t *word, struct lock_event_step s, const struct timespec *deadline) {
+    uint64_t found = s.first;
+    switch (s.action) {
+    case LOCK_LOAD: return __atomic_load_n(word, __ATOMIC_SEQ_CST);
+    case LOCK_EXCHANGE:
+        __atomic_compare_exchange_n(word, &found, s.second, false, __ATOMIC_SEQ_CST, __ATOMIC_SEQ_CST);
+        return found;
+    case LOCK_SUBTRACT: return __atomic_fetch_sub(word, s.first, __ATOMIC_SEQ_CST);
+    case LOCK_OR: return __atomic_fetch_or(word, s.first, __ATOMIC_SEQ_CST);
+    }
+    return make((uint32_t *)word, (struct lock_step){(uint32_t)s.action, 0, (uint32_t)s.first, 0}, deadline);
+}
+
+static bool has_event_ended(struct lock_event_step s) { return s.action == LOCK_DONE || s.action == LOCK_REFUSED; }
+
 bool proved_cond_wait_until(proved_cond *c, proved_mutex *m, const struct timespec *deadline) {
     struct lock_event call;
-    struct lock_step s = lock_c_wait(&call);
-    while (!has_ended(s)) {
+    struct lock_event_step s = lock_c_wait(&call);
+    while (!has_event_ended(s)) {
         if (s.action == LOCK_UNLOCK) proved_mutex_unlock(m);
         if (s.action == LOCK_LOCK) proved_mutex_lock(m);
-        s = lock_c_next_event(&call, make(c->words, s, deadline));
+        s = lock_c_next_event(&call, make_event(&c->word, s, deadline));
     }
     return s.action == LOCK_DONE;
 }
 
-uint32_t proved_notify_rest(proved_cond *c, bool all, uint32_t count) {
+uint32_t proved_notify_rest_(proved_cond *c, bool all, uint64_t word) {
     struct lock_event call;
-    lock_c_notify(&call, all); /* its first step, the load of the count, is made */
-    struct lock_step s = lock_c_next_event(&call, count);
-    while (!has_ended(s)) s = lock_c_next_event(&call, make(c->words, s, 0));
-    return call.loaded;
+    lock_c_notify(&call, all); /* its first step, the load of the word, is made */
+    struct lock_event_step s = lock_c_next_event(&call, word);
+    while (!has_event_ended(s)) s = lock_c_next_event(&call, make_event(&c->word, s, 0));
+    return proved_waits_(call.loaded);
 }

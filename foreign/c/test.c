@@ -3,6 +3,7 @@
 #define _GNU_SOURCE
 #include "proved_lock.h"
 #include <pthread.h>
+#include <sched.h>
 #include <stdio.h>
 #include <stdlib.h>
 #include <sys/syscall.h>
@@ -34,9 +35,18 @@ static struct timespec in_nanoseconds(long nanoseconds) {
     return t;
 }
 
-static bool is_before(const struct timespec *end) {
-    struct timespec t = in_nanoseconds(0);
-    return t.tv_sec < end->tv_sec || (t.tv_sec == end->tv_sec && t.tv_nsec < end->tv_nsec);
+static bool is_earlier(struct timespec a, struct timespec b) {
+    return a.tv_sec < b.tv_sec || (a.tv_sec == b.tv_sec && a.tv_nsec < b.tv_nsec);
+}
+
+static bool is_before(const struct timespec *end) { return is_earlier(in_nanoseconds(0), *end); }
+
+/* A deadline lies between those by this file's own clock before and after it, and is a valid time. */
+static void deadlines_are_ahead(void) {
+    for (long ahead = 0; ahead < 5000000000; ahead += 99999999) {
+        struct timespec before = in_nanoseconds(ahead), deadline = proved_deadline_in((uint64_t)ahead);
+        MUST(!is_earlier(deadline, before) && !is_earlier(in_nanoseconds(ahead), deadline) && deadline.tv_nsec < 1000000000);
+    }
 }
 
 static void *adds(void *unused) {
@@ -74,9 +84,9 @@ static void await_sleep(long id) {
     }
 }
 
-/* Waits until the bit of sleepers is set. */
-static void await_sleeper(const uint32_t *word) {
-    while (!(__atomic_load_n(word, __ATOMIC_SEQ_CST) & PROVED_SLEEPERS)) nanosleep(&(struct timespec){0, 20000}, 0);
+/* Waits until the bit is set. */
+static void await_bit(const uint32_t *word, uint32_t bit) {
+    while (!(__atomic_load_n(word, __ATOMIC_SEQ_CST) & bit)) nanosleep(&(struct timespec){0, 20000}, 0);
 }
 
 /* A release that finds the bit of sleepers wakes one. A waiter that does not sleep yet finds another word, and does not sleep. */
@@ -85,7 +95,7 @@ static void sleepers_are_woken(void) {
         pthread_t waiter;
         proved_mutex_lock(&mutex);
         MUST(!pthread_create(&waiter, 0, adds_once, (void *)i));
-        await_sleeper(&mutex.word);
+        await_bit(&mutex.word, PROVED_SLEEPERS);
         if (i % 2) await_sleep(__atomic_load_n(&waiter_id, __ATOMIC_SEQ_CST));
         proved_mutex_unlock(&mutex);
         pthread_join(waiter, 0);
@@ -189,12 +199,84 @@ static void writers_bar_readers(void) {
         pthread_t waiter;
         proved_rwlock_lock_shared(&rwlock);
         MUST(!pthread_create(&waiter, 0, waits_for_readers, (void *)kind));
-        await_sleeper(&rwlock.word);
+        await_bit(&rwlock.word, PROVED_SLEEPERS);
         bool is_admitted = proved_rwlock_try_lock_shared(&rwlock);
         MUST(is_admitted == (kind == 3));
         if (is_admitted) proved_rwlock_unlock_shared(&rwlock);
         proved_rwlock_unlock_shared(&rwlock);
         pthread_join(waiter, 0);
+    }
+}
+
+/* Starts a thread, and waits until it sleeps. Its body tells its number. */
+static pthread_t start_sleeper(void *(*body)(void *)) {
+    pthread_t thread;
+    waiter_id = 0;
+    MUST(!pthread_create(&thread, 0, body, 0));
+    while (!__atomic_load_n(&waiter_id, __ATOMIC_SEQ_CST)) sched_yield();
+    await_sleep(waiter_id);
+    return thread;
+}
+
+static void *writes_once(void *unused) {
+    (void)unused;
+    __atomic_store_n(&waiter_id, syscall(SYS_gettid), __ATOMIC_SEQ_CST);
+    proved_rwlock_lock_exclusive(&rwlock);
+    proved_rwlock_unlock_exclusive(&rwlock);
+    return 0;
+}
+
+static void *upgrades_in_time(void *unused) {
+    struct timespec far = in_nanoseconds(0);
+    (void)unused;
+    far.tv_sec += 5;
+    __atomic_store_n(&waiter_id, syscall(SYS_gettid), __ATOMIC_SEQ_CST);
+    MUST(proved_rwlock_upgrade_until(&rwlock, &far) && is_before(&far));
+    proved_rwlock_unlock_exclusive(&rwlock);
+    return 0;
+}
+
+/* The last reader wakes an upgrade that sleeps next to a writer with its bar, although the writer slept first. */
+static void upgrades_pass_barred_writers(void) {
+    proved_rwlock_lock_shared(&rwlock);
+    proved_rwlock_lock_upgradable(&rwlock);
+    pthread_t writer = start_sleeper(writes_once), upgrade = start_sleeper(upgrades_in_time);
+    proved_rwlock_unlock_shared(&rwlock);
+    pthread_join(upgrade, 0);
+    pthread_join(writer, 0);
+}
+
+static void *reads_once(void *kind) {
+    struct timespec far = in_nanoseconds(0), soon = in_nanoseconds(50000000);
+    far.tv_sec += 60;
+    switch ((uintptr_t)kind) {
+    case 0: proved_rwlock_lock_shared(&rwlock); break;
+    case 1: MUST(proved_rwlock_lock_shared_until(&rwlock, &far)); break;
+    case 2: MUST(!proved_rwlock_lock_shared_until(&rwlock, &soon) && !is_before(&soon)); return 0;
+    }
+    proved_rwlock_unlock_shared(&rwlock);
+    return 0;
+}
+
+/* A reader that nobody wakes takes a turn, and a writer that waits then sets no bar. A reader takes its turn back at its deadline. */
+static void readers_get_a_turn(void) {
+    for (uintptr_t kind = 0; kind < 3; kind++) {
+        pthread_t reader, writer;
+        proved_rwlock_lock_exclusive(&rwlock);
+        MUST(!pthread_create(&reader, 0, reads_once, (void *)kind));
+        await_bit(&rwlock.word, PROVED_TURN);
+        if (kind < 2) {
+            writer = start_sleeper(writes_once);
+            MUST((__atomic_load_n(&rwlock.word, __ATOMIC_SEQ_CST) & (PROVED_BAR | PROVED_TURN)) == PROVED_TURN);
+            proved_rwlock_unlock_exclusive(&rwlock);
+            pthread_join(writer, 0);
+        }
+        pthread_join(reader, 0);
+        if (kind == 2) {
+            MUST(!(rwlock.word & PROVED_TURN));
+            proved_rwlock_unlock_exclusive(&rwlock);
+        }
+        MUST(!(rwlock.word & ~PROVED_SLEEPERS));
     }
 }
 
@@ -250,28 +332,87 @@ static void all_are_woken(void) {
     MUST(proved_cond_notify_all(&not_empty) == 0 && !proved_cond_notify_one(&not_empty));
 }
 
+enum { WORKERS = 4, JOBS = 200 };
+static proved_cond has_jobs;
+static int jobs, wait_ends;
+
+/* Takes jobs until there are less than none. */
+static void *takes_jobs(void *unused) {
+    proved_mutex_lock(&queue);
+    while (jobs >= 0) {
+        if (jobs > 0) {
+            jobs--;
+            continue;
+        }
+        proved_cond_wait(&has_jobs, &queue);
+        wait_ends++;
+    }
+    proved_mutex_unlock(&queue);
+    return unused;
+}
+
+/* Gives a job, unless one is left, and notifies. Returns whether it gave one. */
+static bool gives_job(void) {
+    proved_mutex_lock(&queue);
+    bool gives = jobs == 0;
+    if (gives) jobs++;
+    proved_mutex_unlock(&queue);
+    proved_cond_notify_one(&has_jobs);
+    usleep(200);
+    return gives;
+}
+
+/* Gives jobs to workers of whom some always waits. The first waits see the epochs skip so many. In the last epoch waits yield, and
+ * end on their own. Returns how many have ended after it. */
+static int wait_ends_from(uint32_t epochs) {
+    pthread_t workers[WORKERS];
+    jobs = wait_ends = 0;
+    for (int i = 0; i < WORKERS; i++) MUST(!pthread_create(&workers[i], 0, takes_jobs, 0));
+    while (proved_waits_(__atomic_load_n(&has_jobs.word, __ATOMIC_SEQ_CST)) < WORKERS) usleep(200);
+    __atomic_fetch_add(&has_jobs.word, epochs, __ATOMIC_SEQ_CST);
+    while ((uint32_t)__atomic_load_n(&has_jobs.word, __ATOMIC_SEQ_CST) > INT32_MAX) gives_job();
+    proved_mutex_lock(&queue);
+    wait_ends = 0;
+    proved_mutex_unlock(&queue);
+    for (int given = 0; given < JOBS;) given += gives_job();
+    proved_mutex_lock(&queue);
+    jobs = -1;
+    proved_mutex_unlock(&queue);
+    proved_cond_notify_all(&has_jobs);
+    for (int i = 0; i < WORKERS; i++) pthread_join(workers[i], 0);
+    MUST(!proved_waits_(has_jobs.word) && (uint32_t)has_jobs.word <= 2 * JOBS);
+    return wait_ends;
+}
+
+/* Waits end by notifications and not on their own, also after the last epoch. */
+static void epochs_begin_anew(void) {
+    MUST(wait_ends_from(0) <= 4 * JOBS);
+    MUST(wait_ends_from(UINT32_MAX - 20) <= 4 * JOBS);
+}
+
 static void conditions(void) {
     struct timespec deadline = in_nanoseconds(1000000);
     proved_mutex_lock(&queue);
     MUST(!proved_cond_wait_until(&not_full, &queue, &deadline) && !is_before(&deadline));
     MUST(!proved_cond_wait_until(&not_full, &queue, &(struct timespec){-1, 0}));
     MUST(!proved_mutex_try_lock(&queue));
-    /* in the last epoch a wait yields while another waiter is counted, and sees its deadline */
-    static proved_cond last;
-    last.words[0] = 1;
-    last.words[1] = UINT32_MAX;
-    MUST(!proved_cond_wait_until(&last, &queue, &deadline) && !proved_cond_wait_until(&last, &queue, &(struct timespec){-1, 0}));
-    deadline = in_nanoseconds(60000000000);
-    MUST(proved_cond_wait_until(&last, &queue, &deadline) && last.words[0] == 1);
+    /* in the last epoch, and where the count is full, a wait yields without its mutex, and sees its deadline */
+    const uint64_t no_room[] = {(uint64_t)1 << 40 | UINT32_MAX, UINT64_MAX >> 40 << 40};
+    for (int i = 0; i < 2; i++) {
+        static proved_cond closed;
+        closed.word = no_room[i];
+        MUST(!proved_cond_wait_until(&closed, &queue, &deadline) && !proved_cond_wait_until(&closed, &queue, &(struct timespec){-1, 0}));
+        struct timespec far = in_nanoseconds(60000000000);
+        MUST(proved_cond_wait_until(&closed, &queue, &far) && closed.word == no_room[i]);
+    }
     proved_mutex_unlock(&queue);
-    not_empty.words[1] = UINT32_MAX - 20; /* soon the epochs begin anew */
     run(produces_or_consumes);
     MUST(filled == 0 && taken == THREADS / 2 * ITEMS && sum == THREADS / 2 * ((long)ITEMS * (ITEMS - 1) / 2));
     for (int i = 0; i < 50; i++) {
         filled = 0;
         all_are_woken();
     }
-    MUST(!(queue.word & ~PROVED_SLEEPERS) && not_empty.words[0] == 0 && not_full.words[0] == 0);
+    MUST(!(queue.word & ~PROVED_SLEEPERS) && !proved_waits_(not_empty.word) && !proved_waits_(not_full.word));
 }
 
 static void tries_and_deadlines(void) {
@@ -288,8 +429,8 @@ static void tries_and_deadlines(void) {
     MUST(proved_rwlock_lock_shared_until(&zeroed, &deadline) && proved_rwlock_lock_upgradable_until(&zeroed, &deadline));
 
     proved_rwlock two;
-    MUST(!proved_rwlock_init(&two, 0) && !proved_rwlock_init(&two, (uint32_t)1 << 28));
-    MUST(proved_rwlock_init(&two, ((uint32_t)1 << 28) - 1) && proved_rwlock_init(&two, 2));
+    MUST(!proved_rwlock_init(&two, 0) && !proved_rwlock_init(&two, (uint32_t)1 << 27));
+    MUST(proved_rwlock_init(&two, ((uint32_t)1 << 27) - 1) && proved_rwlock_init(&two, 2));
     MUST(proved_rwlock_try_lock_shared(&two) && proved_rwlock_try_lock_upgradable(&two));
     MUST(!proved_rwlock_try_lock_shared(&two) && !proved_rwlock_try_lock_exclusive(&two) && !proved_rwlock_try_upgrade(&two));
     MUST(!proved_rwlock_lock_shared_until(&two, &deadline) && !proved_rwlock_upgrade_until(&two, &deadline));
@@ -368,7 +509,8 @@ static void the_last_user_frees(void) {
 
 int main(int count, char **words) {
     static void (*const tests[])(void) = {
-        tries_and_deadlines, threads_count, sleepers_are_woken, writers_bar_readers, conditions, threads_mix, the_last_user_frees,
+        deadlines_are_ahead, tries_and_deadlines, threads_count, sleepers_are_woken, writers_bar_readers, upgrades_pass_barred_writers,
+        readers_get_a_turn, conditions, epochs_begin_anew, threads_mix, the_last_user_frees,
     };
     seconds = count > 1 ? atoi(words[1]) : 0;
     for (; passed < (int)(sizeof tests / sizeof *tests); passed++) tests[passed]();

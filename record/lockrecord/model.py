@@ -9,6 +9,8 @@ from typing import NamedTuple, Optional, Union
 from .names import Names, plain
 from .record_file import ITSELF, Occurs, Path, Place, Record, Step
 from .report import progress
+from .suppressions import NO_SUPPRESSIONS, Suppressions
+from .symbols import TRIES_ALL
 from .timing import Timing
 
 LATE = 100  # the place of a lock of a class that was small when the pattern was recorded: any other one may be meant
@@ -83,10 +85,12 @@ class Group(NamedTuple):
 class Model:
     """What the plans are made from."""
 
-    def __init__(self, record: Record, bars: bool, tries_wait: bool) -> None:
+    def __init__(self, record: Record, bars: bool, tries_wait: bool, suppressions: Suppressions = NO_SUPPRESSIONS) -> None:
         self.record, self.names = record, Names(record, bars)
         self.timing = Timing(self.names)
         self.tries_wait, self.fell_back = tries_wait, set[str]()
+        self._suppressions, self._suppressed = suppressions, dict[int, bool]()
+        self._tries_all = dict[int, bool]()
         self.groups: dict[int, Group] = {}
         self.paths: dict[str, dict[Events, Made]] = defaultdict(dict)
         self._overflowed = {s.target for p in record.patterns for s in p.steps if s.by_use != ITSELF and s.op != "join"}
@@ -103,10 +107,45 @@ class Model:
         flats += [(group.names, self.record.classes[cls].flat) for cls, group in self.groups.items()]
         return [Alone(name, i == 1, flat[i].place) for names, flat in flats for i in range(2) if flat[i].parties & bits for name in names]
 
-    def _op(self, op: str, lock: Optional[int], cls: Optional[int] = None) -> str:
-        """A try whose refusal was seen to lead to a wait for the lock is an acquisition that may wait."""
+    @property
+    def suppressed(self) -> int:
+        """How many places of acquisitions a suppression names."""
+        return sum(self._suppressed.values())
+
+    def _is_suppressed(self, site: int) -> bool:
+        if not self._suppressions:
+            return False
+        if site not in self._suppressed:
+            self._suppressed[site] = self._suppressions.matches(self.names.all_frames(Place(site)))
+        return self._suppressed[site]
+
+    def _is_of_several(self, place: Place) -> bool:
+        """Whether std::lock or std::scoped_lock made the call."""
+        if place.site not in self._tries_all:
+            self._tries_all[place.site] = any(TRIES_ALL.search(it.function) for it in self.names.all_frames(place))
+        return self._tries_all[place.site]
+
+    def _turned(self, path: Path) -> list[Path]:
+        """The ways through std::lock: it waits for one lock, and tries the others. After a refusal it releases what it has, and waits for the lock
+        that was refused. So each of them may be the one that it waits for, below what was held before."""
+        found = [path]
+        for i in range(1, len(path.steps)):
+            before, first = path.steps[i - 1], path.steps[i]
+            if not first.op.startswith("try-") or before.op not in ("lock", "write") or not self._is_of_several(first.place):
+                continue
+            end = i + 1
+            while end < len(path.steps) and path.steps[end].op.startswith("try-") and self._is_of_several(path.steps[end].place):
+                end += 1
+            own = path.steps[i - 1 : end]
+            for k in range(1, len(own)):
+                turned = [own[k]._replace(op=own[k].op[4:])] + [it._replace(op="try-" + it.op.replace("try-", "")) for it in own[k + 1 :] + own[:k]]
+                found.append(path._replace(steps=path.steps[: i - 1] + tuple(turned) + path.steps[end:]))
+        return found
+
+    def _op(self, op: str, lock: Optional[int], cls: Optional[int] = None, site: int = 0) -> str:
+        """A try whose refusal was seen to lead to a wait for the lock is an acquisition that may wait. A suppressed wait counts as a try."""
         if not op.startswith("try-"):
-            return op
+            return f"try-{op}" if op != "release" and self._is_suppressed(site) else op
         it = self.record.locks[lock] if lock is not None else None
         cls = it.cls if it else cls
         falls_back = self.tries_wait or (it is not None and it.falls_back) or (cls is not None and self.record.classes[cls].falls_back)
@@ -126,13 +165,16 @@ class Model:
 
     def _collect(self) -> Patterns:
         patterns: Patterns = {}
-        paths = self.record.paths + self._present_paths()
+        recorded = self.record.paths + self._present_paths()
+        tries = {it.place.site for path in recorded for it in path.steps if it.op.startswith("try-")}
+        self.names.load(tries if not self._suppressions else {it.place.site for path in recorded for it in path.steps})
+        paths = [turned for it in recorded for turned in (self._turned(it) if tries else [it])]
         for i, path in enumerate(paths):
             progress("paths", i, len(paths))
             if any(s.op != "join" and self.record.locks[s.target].cls in self._overflowed for s in path.steps):
                 self._add_pattern(patterns, path, self._as_pattern(path.steps))
             else:
-                self._add(path.party, [(s.op if s.op == "join" else self._op(s.op, s.target), self._target(s)) for s in path.steps], _made(path))
+                self._add(path.party, [(s.op if s.op == "join" else self._op(s.op, s.target, site=s.place.site), self._target(s)) for s in path.steps], _made(path))
         for path in self.record.patterns:
             self._add_pattern(patterns, path, self._late(path.steps))
         return patterns
@@ -156,7 +198,7 @@ class Model:
         for s in steps:
             cls = locks[s.target].cls if s.op != "join" else None
             if cls is None or cls not in self._overflowed:
-                result.append(PatternStep(s.op if s.op == "join" else self._op(s.op, s.target), s.target, False, ITSELF, 0, 0))
+                result.append(PatternStep(s.op if s.op == "join" else self._op(s.op, s.target, site=s.place.site), s.target, False, ITSELF, 0, 0))
                 continue
             mates: list[int] = []
             for o in steps:
@@ -165,7 +207,7 @@ class Model:
             it = locks[s.target]
             by_addr = sum((locks[m].addr or locks[m].born) < (it.addr or it.born) for m in mates)
             by_age = sum(locks[m].born < it.born for m in mates)
-            result.append(PatternStep(self._op(s.op, s.target), cls, True, mates.index(s.target), by_addr, by_age))
+            result.append(PatternStep(self._op(s.op, s.target, site=s.place.site), cls, True, mates.index(s.target), by_addr, by_age))
         return tuple(result)
 
     def _late(self, steps: tuple[Step, ...]) -> tuple[PatternStep, ...]:
@@ -179,7 +221,7 @@ class Model:
                 if s.target not in late[cls]:
                     late[cls].append(s.target)
                 target, is_class, by_use = cls, True, LATE + late[cls].index(s.target)
-            op = s.op if s.op == "join" else self._op(s.op, None, target) if is_class else self._op(s.op, s.target)
+            op = s.op if s.op == "join" else self._op(s.op, None, target, s.place.site) if is_class else self._op(s.op, s.target, site=s.place.site)
             result.append(PatternStep(op, target, is_class, by_use, s.by_addr, s.by_age))
         return tuple(result)
 
@@ -199,7 +241,7 @@ class Model:
             stem = plain(self.names.stem(it.site))[:50] + ".any"
             is_by_age = by_age[cls] and not by_addr[cls]
             order = "in the order of addresses" if by_addr[cls] else "in the order of age" if is_by_age else "in any order"
-            names = [f"{stem}{i + 1}" for i in range(min(max(2, count + 1), FEW))]
+            names = [self.names.unused(f"{stem}{i + 1}") for i in range(min(max(2, count + 1), FEW))]
             self.groups[cls] = Group(it.members, order if count > 1 else "one at a time", names, is_by_age)
             kinds = {self.names.kind[self.names.lock[n]] for n, lock in self.record.locks.items() if lock.cls == cls}
             for name in names:

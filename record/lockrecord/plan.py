@@ -46,6 +46,7 @@ class Plan:
         self._model, self._counts = model, counts
         self.lines = [f"# {it}" for it in head]
         self.places: dict[int, Place] = {}  # line, from 1 -> where its call is
+        self.locks: set[str] = set()
         self._sites: dict[tuple[str, Events], Place] = {}
 
     @property
@@ -54,14 +55,25 @@ class Plan:
 
     def add_locks(self, names: set[str]) -> None:
         self.lines.append("")
+        self.locks |= names
         for name in sorted(names):
             kind, note = self._model.names.kind[name], self._model.names.note.get(name)
             line = {"mutex": f"mutex {name}", "rwlock": f"rwlock {name} {READERS}", "bar": f"rwlock {name} {READERS} bar"}[kind]
             self.lines.append(f"{line}{PAD}# {note}" if note else line)
 
-    def add_party(self, party: str, count: Union[int, str], paths: dict[Events, Places], suffix: str = "", is_once: bool = False) -> None:
-        """A party whose threads make any of these paths, any number of times or once."""
-        name = party + suffix
+    def add_flags(self, names: list[str]) -> None:
+        self.lines += [f"flag {it}" for it in names]
+
+    def add_straight(self, name: str, party: str, events: Events, places: Places, before: tuple[str, ...]) -> None:
+        """A party that makes one path once. Other lines come before its last call."""
+        self.lines += ["", f"party {name}{self._about(party)}"]
+        for i, place in enumerate(places):
+            self._sites.setdefault((name, events[: i + 1]), place)
+        self._straight(name, 1, events, 0, [], before)
+
+    def add_party(self, party: str, count: Union[int, str], paths: dict[Events, Places]) -> None:
+        """A party whose threads make any of these paths, any number of times."""
+        name = party
         self.lines += ["", f"party {name}{'' if count == 1 else f' {count}'}{self._about(party)}"]
         tree: Tree = {}
         others: list[Events] = []
@@ -76,11 +88,9 @@ class Plan:
                 at = at.setdefault(event, {})
         if not paths:
             return
-        if not is_once:
-            self.lines.append(f"{PAD}repeat")
-        self._branch(name, 1 if is_once else 2, (), tree, others)
-        if not is_once:
-            self.lines.append(f"{PAD}end")
+        self.lines.append(f"{PAD}repeat")
+        self._branch(name, 2, (), tree, others)
+        self.lines.append(f"{PAD}end")
 
     def _about(self, party: str) -> str:
         it = self._model.names.parties[party]
@@ -129,7 +139,7 @@ class Plan:
         if is_try:
             self.lines += [PAD * depth + "else", PAD * depth + "end"]
 
-    def _straight(self, name: str, depth: int, events: Events, i: int, held: list[Event]) -> None:
+    def _straight(self, name: str, depth: int, events: Events, i: int, held: list[Event], before: tuple[str, ...] = ()) -> None:
         """A path that releases a lock before a later one that it encloses."""
         if i == len(events):
             self.lines += [PAD * depth + it for e in reversed(held) for it in self._undo(e)]
@@ -138,11 +148,13 @@ class Plan:
         if event.op == "release":
             mine = [it for it in held if it.target == event.target][-1:]
             self.lines += [PAD * depth + it for e in mine for it in self._undo(e)]
-            self._straight(name, depth, events, i + 1, [it for it in held if it not in mine])
+            self._straight(name, depth, events, i + 1, [it for it in held if it not in mine], before)
             return
+        if i == len(events) - 1:
+            self.lines += [PAD * depth + it for it in before]
         self._add_call(name, depth, events[: i + 1])
         is_try = event.op.startswith("try-")
-        self._straight(name, depth + is_try, events, i + 1, held + [event])
+        self._straight(name, depth + is_try, events, i + 1, held + [event], before)
         if is_try:
             self.lines.append(PAD * depth + "else")
             self._straight(name, depth + 1, (), 0, held)

@@ -9,6 +9,9 @@ from .record_file import Place, Present, Step
 from .report import say
 
 
+SLEEPS = {"barrier": "a barrier", "condvar": "a condition variable", "futex": "a futex, as of std::future or std::atomic"}
+
+
 def _held(present: Present) -> list[Step]:
     held: list[Step] = []
     for step in present.path:
@@ -19,7 +22,7 @@ def _held(present: Present) -> list[Step]:
     return held
 
 
-def _circle(model: Model) -> set[int]:
+def circle_of(model: Model) -> set[int]:
     """The threads of which each waits for another one of them."""
     present = {it.tid: it for it in model.record.present}
     holders: dict[int, set[int]] = defaultdict(set)
@@ -34,12 +37,27 @@ def _circle(model: Model) -> set[int]:
             return {t for t, o in present.items() if o.party == it.waits.target and t != it.tid}
         return holders[it.waits.target]
 
-    circle = {t for t, it in present.items() if it.waits}
-    while True:
-        kept = {t for t in circle if awaited(present[t]) & circle}
-        if kept == circle:
-            return circle
-        circle = kept
+    next_of = {t: awaited(it) for t, it in present.items()}
+
+    def comes_back(start: int) -> bool:
+        seen, todo = set[int](), list(next_of[start])
+        while todo:
+            it = todo.pop()
+            if it == start:
+                return True
+            if it not in seen:
+                seen.add(it)
+                todo += next_of.get(it, ())
+        return False
+
+    return {t for t in present if comes_back(t)}
+
+
+def circle_in(model: Model) -> set[str]:
+    """Where threads wait in a circle, as addresses."""
+    circle = circle_of(model)
+    waits = [it.waits for it in model.record.present if it.tid in circle and it.waits]
+    return {address for address in (model.names.address(it.place) for it in waits) if address}
 
 
 def _tell_thread(model: Model, it: Present) -> None:
@@ -49,7 +67,7 @@ def _tell_thread(model: Model, it: Present) -> None:
         say(f"      holds {names.lock[step.target]}: {step.op} at {names.place(step.place)}")
     if it.sleeps:
         kind, what, site = it.sleeps
-        say(f"      sleeps on {'a barrier' if kind == 'barrier' else 'a condition variable'} ({what}) at {names.place(Place(site))}")
+        say(f"      sleeps on {SLEEPS.get(kind, kind)} ({what}) at {names.place(Place(site))}")
     elif it.waits:
         target = names.party_of[it.waits.target] if it.waits.op == "join" else names.lock[it.waits.target]
         say(f"      waits for {it.waits.op} {target} at {names.place(it.waits.place)}")
@@ -57,7 +75,7 @@ def _tell_thread(model: Model, it: Present) -> None:
 
 def tell_present(model: Model, always: bool) -> bool:
     """Tells of threads that wait in a circle, or if asked of all that wait. Returns whether there is a circle."""
-    circle = _circle(model)
+    circle = circle_of(model)
     waiting = {it.tid for it in model.record.present if it.waits or it.sleeps}
     told = circle or (waiting if always else set())
     if circle:

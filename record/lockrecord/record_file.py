@@ -99,6 +99,7 @@ class Note(NamedTuple):
     kind: str
     party: int
     object: str
+    mutex: int  # of the wait; or the lock that a signal handler or a forked child acquires
     site: int
     held: frozenset[int]
 
@@ -200,10 +201,23 @@ def _read_locks(record: Record, kind: str, w: list[str]) -> None:
         record.paths.append(_path(w))
     elif kind == "pattern":
         record.patterns.append(_path(w))
-    elif kind in ("wait", "timedwait", "notify", "barrier"):
-        record.notes.append(Note(kind, int(w[0]), w[1], int(w[3]), frozenset(map(int, w[4:]))))
+    elif kind in ("wait", "timedwait", "notify", "barrier", "futex", "handler", "forked"):
+        record.notes.append(Note(kind, int(w[0]), w[1], int(w[2]), int(w[3]), frozenset(map(int, w[4:]))))
     elif kind == "now":
         record.present.append(_present(w))
+
+
+def executable_of(path: str) -> str:
+    """The file name of the program that wrote a record, or nothing."""
+    try:
+        with open(path, encoding="utf-8", errors="replace") as file:
+            line = next((it for it in file if it.startswith("module ")), "")
+    except OSError:
+        return ""
+    return line.rstrip("\n").split(" ", 5)[-1].rsplit("/", 1)[-1]
+
+
+CUT = "is cut off: was the disk full, or the program killed while it wrote?"
 
 
 def read_record(path: str) -> Record:
@@ -219,9 +233,10 @@ def read_record(path: str) -> Record:
                 _read_locks(record, kind, words)
                 last = line
     except (ValueError, IndexError, TypeError) as fault:
-        raise BadRecord(f"{path} has a line that is none of a record: {line.strip()[:60]}") from fault
+        is_whole = line.endswith("\n")
+        raise BadRecord(f"{path} has a line that is none of a record: {line.strip()[:60]}" if is_whole else f"{path} {CUT}") from fault
     except OSError as fault:
         raise BadRecord(f"{path}: {fault.strerror}") from fault
     if last != "end\n":
-        raise BadRecord(f"{path} is cut off: was the disk full, or the program killed while it wrote?")
+        raise BadRecord(f"{path} {CUT}")
     return record

@@ -8,6 +8,7 @@ from typing import NamedTuple
 from .circles import Edge, targets_of
 from .model import Event, Events, Join, Model, Target
 from .plan import Places, Plan, maximal, project
+from .record_file import Place
 
 Cut = dict[str, dict[Events, Places]]  # party -> its paths, each up to its last edge on a circle
 
@@ -67,6 +68,7 @@ def search_plan(model: Model, edges: list[Edge], most: int, head: list[str]) -> 
     for party, paths in cut.items():
         kept = dict(project(events, places, keep) for events, places in maximal(paths).items())
         cut[party] = maximal({events: places for events, places in kept.items() if events})
+    model.names.load(it.site for paths in cut.values() for places in paths.values() for it in places)
     plan = Plan(model, head, counts)
     names = {it.target for paths in cut.values() for events in paths for it in events}
     plan.add_locks({it for it in names if isinstance(it, str)})
@@ -79,19 +81,68 @@ def search_plan(model: Model, edges: list[Edge], most: int, head: list[str]) -> 
     return Reduced(plan, core, names - core, counts, is_limited)
 
 
+Part = tuple[str, Events, Places]
+
+
+def _in_turn(parts: list[Part]) -> list[Part]:
+    """The parties of a circle in an order in which each can come to its wait: one that acquires and releases a lock on its way comes before
+    those that hold it. Any order if there is none."""
+
+    def releases(part: Part) -> set[Target]:
+        return {it.target for it in part[1] if it.op == "release"}
+
+    def holds(part: Part) -> set[Target]:
+        return {it.target for it in part[1][:-1]} - releases(part)
+
+    left, found = list(parts), []
+    while left:
+        first = next((it for it in left if not any(o is not it and releases(o) & holds(it) for o in left)), left[0])
+        left.remove(first)
+        found.append(first)
+    return found
+
+
 def circle_plan(model: Model, circle: list[Edge], head: list[str]) -> Plan:
-    """A party for each thread of a circle, with its one path, and the writers that keep readers out."""
-    parts: list[tuple[str, Events, Places]] = [(e.party, e.events[: e.at + 1], _places(model, e)[: e.at + 1]) for e in circle]
+    """A party for each thread of a circle, with its one path, as a schedule: each starts the next one when it has what it holds, and waits when the
+    next one is about to wait. The writers that keep readers out begin at once. A deadlock of this plan is one without the starts and flags."""
+    parts = _in_turn([(e.party, e.events[: e.at + 1], _places(model, e)[: e.at + 1]) for e in circle])
     bars = {it.target for _, events, _ in parts for it in events if isinstance(it.target, str) and model.names.kind[it.target] == "bar"}
-    for party in model.names.parties:
-        for it in model.alone(party):
-            if it.name in bars and it.is_exclusive:
-                parts.append((party, (Event("write", it.name),), (it.place,)))
+    writers: dict[str, tuple[int, dict[Events, Places]]] = {}
+    for party in model.names.parties if bars else ():
+        free = min(len(bars), model.timing.copies(party) - sum(it[0] == party for it in parts))  # the others stand in the circle
+        paths: dict[Events, Places] = {(Event("write", it.name),): (it.place,) for it in model.alone(party) if it.name in bars and it.is_exclusive}
+        if free > 0 and paths:
+            writers[party] = free, paths
     plan = Plan(model, head, {})
+    model.names.load(it.site for _, _, places in parts for it in places)
     plan.add_locks({it.target for _, events, _ in parts for it in events if isinstance(it.target, str)})
+    names = [f"{party}-circle{i + 1}" for i, (party, _, _) in enumerate(parts)]
+    plan.add_flags([f"stands-{i + 1}" for i in range(1, len(parts))])
     for i, (party, events, places) in enumerate(parts):
-        plan.add_party(party, 1, {events: places}, f"-circle{i + 1}", is_once=True)
+        before = [f"start {names[i + 1]}", f"repeat until stands-{i + 2}", "end"] if i + 1 < len(parts) else []
+        before += [f"set stands-{i + 1}"] if i > 0 else []
+        plan.add_straight(names[i], party, events, places, tuple(before))
+    for party, (free, paths) in writers.items():
+        plan.add_party(party, free, paths)
     return plan
+
+
+MOST_PATHS = 300  # of more, a plan of an order has the pairs of locks alone
+
+
+def _as_pairs(paths: dict[Events, Places]) -> dict[Events, Places]:
+    """Each lock below each one that was held, alone: an order of the locks asks for no more."""
+    pairs: dict[Events, Places] = {}
+    for events, places in paths.items():
+        held: list[tuple[Event, Place]] = []
+        for event, place in zip(events, places):
+            if event.op == "release":
+                held = [it for it in held if it[0].target != event.target]
+                continue
+            for outer, at in held if event.waits else []:
+                pairs.setdefault((outer._replace(op=outer.call), event), (at, place))
+            held.append((event, place))
+    return pairs
 
 
 def order_plan(model: Model, head: list[str]) -> tuple[Plan, set[Target]]:
@@ -105,7 +156,11 @@ def order_plan(model: Model, head: list[str]) -> tuple[Plan, set[Target]]:
         mine = maximal({events: places for events, places in mine.items() if events})
         if mine:
             cut[party] = mine
+    if sum(map(len, cut.values())) > MOST_PATHS:
+        every = {events: places for paths in cut.values() for events, places in _as_pairs(paths).items()}
+        cut = {"main": every}  # for any number of threads, whoever makes them
     names = {it.target for paths in cut.values() for events in paths for it in events}
+    model.names.load(it.site for paths in cut.values() for places in paths.values() for it in places)
     plan = Plan(model, head, {})
     plan.add_locks({it for it in names if isinstance(it, str)})
     for party in sorted(cut, key=list(model.names.parties).index):

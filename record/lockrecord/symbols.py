@@ -15,7 +15,16 @@ from .report import progress
 LIBRARY = re.compile(
     r"/rustc/|/library/(std|core|alloc)/|/include/c\+\+/|gthr-default|lock_api|/proved_lock[^/]*/src/|\bproved_lock\.h|/glibc|/nptl/|\.\./sysdeps|/csu/|libc-start|pthread_create\.c|clone3?\.S"
 )
-WRAPPER = re.compile(r"libstdc\+\+|libc\+\+|std::|core::|__gthread|<?lock_api::|<?proved_lock::|CRYPTO_THREAD_|__libc|start_thread|__clone|__pthread_once|_start$")
+TRIES_ALL = re.compile(r"std::(?:\w+::)*(?:lock|scoped_lock|__lock_impl|__lock_first)<")  # they wait for one lock, and try the others
+WRAPPER = re.compile(r"libstdc\+\+|libc\+\+|<?&?(?:std|core|alloc)::|__rust_|__gthread|<?lock_api::|<?proved_lock::|CRYPTO_THREAD_|__libc|libc\.so|ld-linux|start_thread|__clone|clone3?$|__pthread_once|__GI___sigaction|__restore_rt|_start$")
+
+
+def short(function: str) -> str:
+    """The name of a function without its parameters."""
+    function = function.replace("(anonymous namespace)", "{anonymous}")
+    function = re.sub(r"\{lambda\([^{}]*\)#(\d+)\}", r"{lambda#\1}", function)
+    at = function.find("operator()")
+    return function[: at + 10] if at >= 0 else re.sub(r"\(.*", "", function)
 
 
 class Frame(NamedTuple):
@@ -78,6 +87,9 @@ class Symbols:
                 groups[-1].append(line)
         for addr, lines in zip(addrs, groups):
             frames = [self._frame(module, addr, *pair) for pair in zip(lines[::2], lines[1::2])]
+            if frames and frames[-1].function == "operator()":  # of a lambda: the symbol says which one
+                found = self._find(module.path, addr if is_fixed else addr - module.base, True)
+                frames[-1] = frames[-1]._replace(function=short(found[0].name)) if found else frames[-1]
             self._lines[addr, module.base] = frames
 
     def _frame(self, module: Module, addr: int, function: str, where: str) -> Frame:
@@ -86,7 +98,7 @@ class Symbols:
             found = self._find(module.path, addr - module.base, True)
             function = found[0].name if found else f"{os.path.basename(module.path)}+{addr - module.base:#x}"
         is_known = not (where.startswith("??") or where.endswith((":0", ":?")))
-        return Frame(re.sub(r"\(.*", "", function), where if is_known else None)
+        return Frame(short(function), where if is_known else None)
 
     def _table(self, path: str) -> list[Symbol]:
         if path not in self._tables:
@@ -114,21 +126,28 @@ class Symbols:
         unknown = f"{os.path.basename(module.path)}+{addr - module.base:#x}" if module else f"{addr:#x}"
         return self._lines.get((addr, module.base if module else 0), [Frame(unknown, None)])
 
+    def has_library(self, name: str, addr: int, epoch: int = LOADED) -> bool:
+        """Whether the address lies in a library whose file name begins so."""
+        module = self.module(addr, epoch)
+        return module is not None and os.path.basename(module.path).startswith(name)
+
+    def all_frames(self, addresses: tuple[int, ...], epoch: int = LOADED) -> list[Frame]:
+        """The frames of return addresses, with what was inlined and with the wrappers of libraries."""
+        self.load([(it - 1, epoch) for it in addresses])
+        return [frame for it in addresses for frame in self._told(it - 1, epoch)]
+
     def frames(self, addresses: tuple[int, ...], epoch: int = LOADED) -> list[Frame]:
         """The frames of return addresses, with what was inlined, without the wrappers of libraries if that leaves any."""
         self.load([(it - 1, epoch) for it in addresses])
-        told = [frame for it in addresses if not self._is_recorder(it, epoch) for frame in self._told(it - 1, epoch)]
+        told = [frame for it in addresses if not self.has_library("liblockrecord.so", it, epoch) for frame in self._told(it - 1, epoch)]
         own = [it for it in told if not (it.line and LIBRARY.search(it.line)) and not WRAPPER.match(it.function)]
         return own or told[:1] or [Frame("?", None)]
 
-    def _is_recorder(self, addr: int, epoch: int) -> bool:
-        module = self.module(addr, epoch)
-        return module is not None and os.path.basename(module.path) == "liblockrecord.so"
-
     def function(self, addr: int) -> str:
-        """The function that begins at an address."""
-        self.load([(addr, LOADED)])
-        return self._told(addr, LOADED)[-1].function
+        """The function that begins at an address, in a module that may be unloaded."""
+        epoch = next((it.last for it in reversed(self._modules) if it.base <= addr < it.end), LOADED)
+        self.load([(addr, epoch)])
+        return self._told(addr, epoch)[-1].function
 
     def datum(self, addr: int, size: int) -> Optional[str]:
         """The name of a static object of this size, or of the element of a static array. Of size 0, it may lie anywhere in the object."""

@@ -14,7 +14,7 @@ static uint8_t kind_of(const void *addr, uint8_t kind) {
     return kind;
 }
 
-struct lock *look_up(struct thread *t, void *addr, uint8_t kind, uintptr_t caller) {
+struct lock *look_up(struct thread *t, void *addr, uint8_t kind, caller_t caller) {
     unsigned slot = ((uintptr_t)addr >> 3 ^ (uintptr_t)addr >> 11) % CACHE;
     struct lock *l = find_lock(addr);
     if (!l && caller) l = make_lock(addr, kind_of(addr, kind), site_of_stack(caller), false);
@@ -22,7 +22,7 @@ struct lock *look_up(struct thread *t, void *addr, uint8_t kind, uintptr_t calle
     return l;
 }
 
-void after_init(void *addr, uint8_t kind, uintptr_t caller) {
+void after_init(void *addr, uint8_t kind, caller_t caller) {
     struct thread *t = mine();
     if (!t) return;
     begin(t);
@@ -39,7 +39,7 @@ void before_destroy(void *addr) {
 }
 
 /* A wait releases the mutex, sleeps, and acquires it again with all that the thread still holds. */
-struct wait wait_begins(void *condvar, void *mutex, uint8_t kind, char what, uintptr_t caller) {
+struct wait wait_begins(void *condvar, void *mutex, uint8_t kind, char what, caller_t caller) {
     struct wait w = {.t = mine()};
     struct thread *t = w.t;
     if (!t) return w;
@@ -64,7 +64,7 @@ void wait_ends(void *wait) {
     finish(w->t);
 }
 
-void notifies(void *condvar, uintptr_t caller) {
+void notifies(void *condvar, caller_t caller) {
     struct thread *t = mine();
     if (!t) return;
     begin(t);

@@ -7,16 +7,18 @@
 #include <stdatomic.h>
 
 #define EXPORT __attribute__((visibility("default")))
-#define CALLER ((uintptr_t)__builtin_return_address(0))
+#define TRIES(op) ((op) | OP_TRY) /* a time limit ends a wait too */
+#define CALLER ((caller_t)__builtin_frame_address(0) + 1)
 #define THREAD_LOCAL __thread __attribute__((tls_model("initial-exec"), visibility("hidden")))
 
 extern THREAD_LOCAL struct thread *self;
 extern THREAD_LOCAL bool leaving; /* its last calls, and those of a thread without room, are not recorded */
 struct thread *arrive(void);
 void tell_signal(struct thread *t);
-struct lock *look_up(struct thread *t, void *addr, uint8_t kind, uintptr_t caller);
+struct lock *look_up(struct thread *t, void *addr, uint8_t kind, caller_t caller);
 void catch_signals(void);
 void look_at_allocator(void);
+extern long (*real_syscall)(long, ...) __attribute__((visibility("hidden")));
 void forget_unborn(void); /* in a forked child */
 void make_exit_key(void);
 void ends_with(struct thread *t);
@@ -39,8 +41,8 @@ static inline void finish(struct thread *t) {
     if (unlikely(t->dump_later)) tell_signal(t);
 }
 
-/* The lock at this address. A caller of 0 makes none. */
-static inline struct lock *lock_at(struct thread *t, void *addr, uint8_t kind, uintptr_t caller) {
+/* The lock at this address. Without a caller, none is made. */
+static inline struct lock *lock_at(struct thread *t, void *addr, uint8_t kind, caller_t caller) {
     unsigned slot = ((uintptr_t)addr >> 3 ^ (uintptr_t)addr >> 11) % CACHE;
     struct lock *l = t->locks[slot].lock;
     if (likely(t->locks[slot].addr == addr && GET(l->addr) == addr)) return l;
@@ -54,20 +56,21 @@ struct call {
     uint8_t op;
 };
 
-static inline struct call before(void *addr, uint8_t kind, uint8_t op, uintptr_t caller) {
+static inline struct call before(void *addr, uint8_t kind, uint8_t op, caller_t caller) {
     struct call c = {.t = mine(), .op = op};
     if (unlikely(!c.t)) return c;
     begin(c.t);
     c.lock = lock_at(c.t, addr, kind, caller);
     bool waits = c.lock && !(op & OP_TRY);
     if (likely(c.lock != NULL)) c.site = site_of(c.t, caller, salt_of(c.lock));
+    if (unlikely(c.t->watches) && waits) watch(c.t, c.lock, c.site);
     if (waits) {
         SET(c.t->waits_lock, c.lock);
         SET(c.t->waits_site, c.site);
         SET(c.t->waits_op, op);
     }
     finish(c.t);
-    if (unlikely(has_pauses) && waits && is_paused(c.site)) pause_here(c.site);
+    if (unlikely(has_pauses) && c.lock && (c.t->n_held || pauses_alone) && is_paused(c.site)) pause_here(c.site);
     return c;
 }
 
@@ -93,7 +96,7 @@ static inline void before_release(void *addr) {
     finish(t);
 }
 
-void after_init(void *addr, uint8_t kind, uintptr_t caller);
+void after_init(void *addr, uint8_t kind, caller_t caller);
 void before_destroy(void *addr);
 
 /* The waits on condition variables, for both kinds of them. */
@@ -102,9 +105,9 @@ struct wait {
     struct lock *mutex;
     uint32_t site;
 };
-struct wait wait_begins(void *condvar, void *mutex, uint8_t kind, char what, uintptr_t caller);
+struct wait wait_begins(void *condvar, void *mutex, uint8_t kind, char what, caller_t caller);
 void wait_ends(void *wait);
-void notifies(void *condvar, uintptr_t caller);
+void notifies(void *condvar, caller_t caller);
 
 /* The bodies of the hooks. `is` is the success of the call, whose result is r. */
 #define ACQUIRE(addr, kind, op, is, real_call) \

@@ -30,12 +30,15 @@ EXPORT void free(void *p) {
 EXPORT int dlclose(void *handle) {
     struct thread *t = mine();
     if (!t) return REAL(dlclose)(handle);
+    struct going going;
     begin(t);
     note_modules();
+    before_unload(&going);
     finish(t);
     int r = REAL(dlclose)(handle);
     begin(t);
     note_modules();
+    after_unload(&going);
     finish(t);
     return r;
 }

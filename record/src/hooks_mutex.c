@@ -3,7 +3,6 @@
 #include "hook.h"
 
 #define LOCKED (r == 0 || r == EOWNERDEAD)
-#define TRIES(op) ((op) | OP_TRY) /* a time limit ends a wait too */
 
 EXPORT int pthread_mutex_init(pthread_mutex_t *m, const pthread_mutexattr_t *a) { INIT(m, MUTEX, REAL(pthread_mutex_init)(m, a)) }
 EXPORT int pthread_mutex_destroy(pthread_mutex_t *m) {

@@ -15,7 +15,7 @@ static uint8_t op_of_mode(int how) {
     return ops[mode_of(how)] | (how & LOCKRECORD_TRY ? OP_TRY : 0);
 }
 
-static uint32_t place_of(struct thread *t, const struct lock *l, int how, uintptr_t caller) {
+static uint32_t place_of(struct thread *t, const struct lock *l, int how, caller_t caller) {
     return how & LOCKRECORD_BY_STACK ? site_of_stack(caller) : site_of(t, caller, salt_of(l));
 }
 
@@ -58,11 +58,11 @@ EXPORT void lockrecord_acquire(const void *lock, int how) {
         SET(t->waits_lock, l), SET(t->waits_site, site), SET(t->waits_op, op_of_mode(how));
     }
     finish(t);
-    if (unlikely(has_pauses) && waits && is_paused(site)) pause_here(site);
+    if (unlikely(has_pauses) && waits && (t->n_held || pauses_alone) && is_paused(site)) pause_here(site);
 }
 
 /* The place of an acquisition that lockrecord_acquire announced is that of the announcement. */
-static uint32_t place_after(struct thread *t, const struct lock *l, int how, uintptr_t caller) {
+static uint32_t place_after(struct thread *t, const struct lock *l, int how, caller_t caller) {
     bool is_announced = GET(t->waits_op) < OP_RELEASE && GET(t->waits_lock) == l;
     return is_announced ? GET(t->waits_site) : place_of(t, l, how, caller);
 }

@@ -2,7 +2,6 @@
 #define _GNU_SOURCE
 #include "hook.h"
 #include "options.h"
-#include <execinfo.h>
 #include <stdarg.h>
 #include <stdlib.h>
 #include <unistd.h>
@@ -38,11 +37,11 @@ static void in_child(void) {
 static void at_quick_end(void) { write_at("quick_exit"); }
 
 __attribute__((constructor)) static void start(void) {
-    void *warm[2];
     find_real();
+    real_syscall = real.syscall;
     look_at_allocator();
     read_options();
-    backtrace(warm, 2); /* loads the unwinder now: later it might allocate inside the program's malloc */
+    find_unwinder();
     make_exit_key();
     pthread_atfork(before_fork, in_parent, in_child);
     at_quick_exit(at_quick_end);

@@ -3,8 +3,6 @@
 #include "hook.h"
 #include "options.h"
 
-#define TRIES (OP_LOCK | OP_TRY)
-
 EXPORT int sem_init(sem_t *m, int shared, unsigned value) {
     if (!with_semaphores || value != 1) return REAL(sem_init)(m, shared, value);
     INIT(m, SEMAPHORE, REAL(sem_init)(m, shared, value))
@@ -26,15 +24,15 @@ EXPORT int sem_wait(sem_t *m) {
 }
 EXPORT int sem_trywait(sem_t *m) {
     if (!is_lock(m)) return REAL(sem_trywait)(m);
-    ACQUIRE(m, SEMAPHORE, TRIES, r == 0, REAL(sem_trywait)(m))
+    ACQUIRE(m, SEMAPHORE, TRIES(OP_LOCK), r == 0, REAL(sem_trywait)(m))
 }
 EXPORT int sem_timedwait(sem_t *m, const struct timespec *u) {
     if (!is_lock(m)) return REAL(sem_timedwait)(m, u);
-    ACQUIRE(m, SEMAPHORE, TRIES, r == 0, REAL(sem_timedwait)(m, u))
+    ACQUIRE(m, SEMAPHORE, TRIES(OP_LOCK), r == 0, REAL(sem_timedwait)(m, u))
 }
 EXPORT int sem_clockwait(sem_t *m, clockid_t k, const struct timespec *u) {
     if (!is_lock(m)) return REAL(sem_clockwait)(m, k, u);
-    ACQUIRE(m, SEMAPHORE, TRIES, r == 0, REAL(sem_clockwait)(m, k, u))
+    ACQUIRE(m, SEMAPHORE, TRIES(OP_LOCK), r == 0, REAL(sem_clockwait)(m, k, u))
 }
 EXPORT int sem_post(sem_t *m) {
     if (!is_lock(m)) return REAL(sem_post)(m);

@@ -1,10 +1,10 @@
-/* SIGUSR1 writes the record; SIGTERM and SIGINT write it and end the program, unless the program has handlers of its own for them.
+/* SIGUSR1 writes the record; SIGTERM, SIGINT and SIGABRT write it and end the program, unless the program has handlers of its own for them.
    The program does not see the recorder's handlers. */
 #define _GNU_SOURCE
 #include "hook.h"
 #include <string.h>
 
-static const int ours[] = {SIGUSR1, SIGTERM, SIGINT};
+static const int ours[] = {SIGUSR1, SIGTERM, SIGINT, SIGABRT};
 enum { OURS = sizeof ours / sizeof *ours };
 static bool is_ours[OURS]; /* the recorder's handler stands for the default */
 
@@ -16,7 +16,7 @@ static void on_signal(int sig) {
         return;
     }
     if (t) t->busy = 1;
-    const char *why = sig == SIGTERM ? "SIGTERM" : sig == SIGINT ? "SIGINT" : "SIGUSR1";
+    const char *why = sig == SIGTERM ? "SIGTERM" : sig == SIGINT ? "SIGINT" : sig == SIGABRT ? "SIGABRT" : "SIGUSR1";
     if (t || !leaving) write_record(why); /* a thread that begins or ends may hold the internal lock */
     if (t) t->busy = 0;
     errno = saved;

@@ -60,7 +60,7 @@ static void *run_thread(void *arg) {
 static int run_thread11(void *arg) { return (int)(intptr_t)run_thread(arg); }
 
 /* Returns what the new thread needs, or NULL without room: such a thread arrives as a stranger. */
-static struct start *prepare(struct start what, uintptr_t caller) {
+static struct start *prepare(struct start what, caller_t caller) {
     struct thread *t = mine();
     if (!t) return NULL;
     begin(t);
@@ -108,7 +108,7 @@ static uint32_t number_of(pthread_t handle, bool waits) {
 }
 
 /* The number is looked up before the real call: after it, another thread may have the handle. */
-static uint32_t join_begins(struct thread *t, pthread_t handle, bool waits, uintptr_t caller) {
+static uint32_t join_begins(struct thread *t, pthread_t handle, bool waits, caller_t caller) {
     if (!t) return NO_THREAD;
     begin(t);
     uint32_t tid = number_of(handle, waits);

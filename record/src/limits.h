@@ -3,14 +3,19 @@
 #define LOCKRECORD_LIMITS_H
 
 enum {
-    PATH_MAX_EVENTS = 24, /* events of a path; a longer one first forgets the locks that it released */
-    HELD_MAX = 48,        /* locks that one thread holds at a time */
-    FRAMES_MAX = 4,       /* stack frames of a site */
+    PATH_MAX_EVENTS = 96, /* events of a path; a longer one first forgets the locks that it released */
+    HELD_MAX = 96,        /* locks that one thread holds at a time */
+    FRAMES_MAX = 12,      /* stack frames of a site */
     STACK_MAX = 10,       /* stack frames of a thread's creation */
+    WALK_MAX = 32,        /* stack frames that are looked at for them */
+    GOING_MAX = 256,      /* stack frames that are looked at when a module is unloaded */
+    SMALL = 160,          /* bytes of the code of a function that may wrap a call */
+    HOPS = 6,             /* callers of small functions that tell places apart */
     OCCURS_MAX = 16,      /* pairs of a thread and its segment that a path keeps; with more it may be made at any time */
     CONCRETE_MAX = 64,    /* paths of one pattern; with more the pattern stands for all of them */
     GROUP_MIN = 16,       /* the locks of a class with more members stand for each other */
     CACHE = 256,          /* locks and sites that a thread finds without the tables */
+    HOP_SLOTS = 4096,     /* return addresses into small functions */
     SEEN = 1024,          /* hashes of paths that a thread has kept already */
     BUCKETS = 1 << 15,
     LOCKS_MAX = 1 << 20,

@@ -3,6 +3,7 @@
 #include <string.h>
 
 struct note *notes[NOTE_BUCKETS];
+bool has_fork_notes; /* the record of a forked child is worth writing for these alone */
 static uint32_t n_notes;
 
 static void fill(struct note *p, const struct thread *t, const struct lock *mutex) {
@@ -25,6 +26,7 @@ void keep_note(struct thread *t, char what, void *object, struct lock *mutex, ui
         *p = (struct note){.hash = h, .party = t->party, .site = site, .what = what, .object = object, .mutex = mutex ? mutex->id : ~0u};
         fill(p, t, mutex);
         if (mutex) mutex->pinned = true;
+        has_fork_notes |= what == 'f';
         p->next = notes[h % NOTE_BUCKETS], notes[h % NOTE_BUCKETS] = p, n_notes++;
     }
     leave();
@@ -33,4 +35,5 @@ void keep_note(struct thread *t, char what, void *object, struct lock *mutex, ui
 void forget_notes(void) {
     memset(notes, 0, sizeof notes);
     n_notes = 0;
+    has_fork_notes = false;
 }

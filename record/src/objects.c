@@ -69,7 +69,7 @@ static struct lock *add_lock(void *addr, uint8_t kind, uint32_t site, bool is_in
     struct lock *l = new_record();
     if (!l) return NULL;
     l->kind = kind, l->first_site = site, l->born = n_born++;
-    l->classed = l->handed = l->falls_back = l->pinned = false;
+    l->classed = l->handed = l->falls_back = l->pinned = l->watched = false;
     l->owner = 0, l->flat[0] = l->flat[1] = (struct flat){0, 0};
     struct class *c = is_static && !is_init ? NULL : class_of(site, is_init); /* a static lock that no call made stands for itself */
     if (c) {

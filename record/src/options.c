@@ -1,5 +1,5 @@
 /* Reads what the environment asks for: LOCKRECORD_OUT, LOCKRECORD_PARENT,
-   LOCKRECORD_FRAMES, LOCKRECORD_SEM, LOCKRECORD_PAUSE, LOCKRECORD_PAUSE_MS. */
+   LOCKRECORD_FRAMES, LOCKRECORD_SEM, LOCKRECORD_PAUSE, LOCKRECORD_PAUSE_MS, LOCKRECORD_PAUSE_ALONE. */
 #include "options.h"
 #include "record.h"
 #include <limits.h>
@@ -18,5 +18,5 @@ void read_options(void) {
     name_record(getenv("LOCKRECORD_OUT"), (pid_t)number_of("LOCKRECORD_PARENT", 0, INT_MAX, 0));
     max_frames = (int)number_of("LOCKRECORD_FRAMES", 1, FRAMES_MAX, max_frames);
     with_semaphores = number_of("LOCKRECORD_SEM", 0, 1, 0);
-    pause_at_places(getenv("LOCKRECORD_PAUSE"), number_of("LOCKRECORD_PAUSE_MS", 1, 60000, 200));
+    pause_at_places(getenv("LOCKRECORD_PAUSE"), number_of("LOCKRECORD_PAUSE_MS", 1, 60000, 200), number_of("LOCKRECORD_PAUSE_ALONE", 0, 1, 0));
 }

@@ -39,6 +39,7 @@
     X(int, pthread_cond_signal, (pthread_cond_t *)) \
     X(int, pthread_cond_broadcast, (pthread_cond_t *)) \
     X(int, pthread_barrier_wait, (pthread_barrier_t *)) \
+    X(long, syscall, (long, ...)) \
     X(int, pthread_once, (pthread_once_t *, void (*)(void))) \
     X(int, pthread_create, (pthread_t *, const pthread_attr_t *, void *(*)(void *), void *)) \
     X(int, pthread_join, (pthread_t, void **)) \

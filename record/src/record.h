@@ -8,6 +8,9 @@
 #include <stdint.h>
 #include <sys/types.h>
 
+/* Where a return address lies on the stack. */
+typedef const uintptr_t *caller_t;
+
 #define likely(x) __builtin_expect(!!(x), 1)
 #define unlikely(x) __builtin_expect(!!(x), 0)
 /* Another thread may look at these while their owner changes them. */
@@ -32,7 +35,7 @@ struct lock {
     void *addr; /* NULL: destroyed. Its record is used again unless a path has it */
     uint32_t id, class, first_site, born;
     uint8_t kind;
-    bool pinned, handed, classed, falls_back;
+    bool pinned, handed, classed, falls_back, watched;
     uint32_t owner;   /* 1 more than the number of the thread that acquired it */
     struct flat flat[2]; /* [0] shared, [1] exclusive */
     struct lock *next;
@@ -43,6 +46,7 @@ struct site {
     uintptr_t key;
     uint32_t id, epoch;
     int n, pauses;
+    bool in_handler; /* of a signal */
     uintptr_t frames[FRAMES_MAX];
     struct site *next;
 };
@@ -103,7 +107,8 @@ struct thread {
     struct lock *waits_lock;
     uint32_t waits_site, waits_party;
     void *sleeps_on;
-    char sleeps_kind;     /* c: condition variable, b: barrier */
+    char sleeps_kind;     /* c: condition variable, b: barrier, x: futex */
+    bool watches;         /* its next acquisition is looked at: see watch */
     struct lock *refused; /* by the last call, a try */
     struct once *once; /* the call of pthread_once that may run its routine next */
     struct { void *addr; struct lock *lock; } locks[CACHE];
@@ -140,7 +145,7 @@ struct path {
 struct note {
     uint64_t hash;
     uint32_t party, site, mutex;
-    char what; /* w: wait, t: timed wait, n: notification, b: barrier */
+    char what; /* w: wait, t: timed wait, n: notification, b: barrier, x: futex; s: acquisition in a signal handler, f: after a fork */
     void *object;
     int n;
     uint32_t held[HELD_MAX];
@@ -198,13 +203,21 @@ bool is_in_module(uintptr_t addr);
 extern struct site *all_sites[SITES_MAX];
 extern uint32_t n_sites;
 extern int max_frames;
-uint32_t slow_site_of(struct thread *t, uintptr_t key, uintptr_t caller);
-uint32_t site_of_stack(uintptr_t caller);
-int stack_of(uintptr_t caller, uintptr_t *frames, int most);
-void pause_at_places(const char *places, long milliseconds);
+uint32_t slow_site_of(struct thread *t, caller_t caller, uint64_t salt);
+uint32_t site_of_stack(caller_t caller);
+int stack_of(caller_t caller, uintptr_t *frames, int most);
+void find_unwinder(void);
+/* The stack of the calls that go on after a module was unloaded. */
+struct going {
+    int n;
+    uintptr_t frames[GOING_MAX];
+};
+void before_unload(struct going *going);
+void after_unload(const struct going *going);
+void pause_at_places(const char *places, long milliseconds, bool alone);
 bool is_paused(uint32_t site);
 void pause_here(uint32_t site);
-extern bool has_pauses;
+extern bool has_pauses, pauses_alone; /* also a thread that holds nothing */
 
 /* ---- threads.c ---- */
 enum { NO_THREAD = 0xffffffff };
@@ -216,17 +229,34 @@ extern bool ready;
 struct thread *thread_begins(uint32_t tid, pthread_t handle);
 struct thread *stranger_begins(void);
 void thread_ends(struct thread *t);
-uint32_t thread_is_made(struct thread *parent, uintptr_t start, uintptr_t caller);
+uint32_t thread_is_made(struct thread *parent, uintptr_t start, caller_t caller);
 void thread_is_joined(struct thread *joiner, uint32_t tid);
 uint32_t thread_of(pthread_t handle);
 void name_thread(uint32_t tid, const char *name);
 void threads_in_child(struct thread *self);
+void watch(struct thread *t, struct lock *lock, uint32_t site);
 
-/* The site of an acquisition: the first stack that this caller had for this lock or class. */
-static inline uint32_t site_of(struct thread *t, uintptr_t caller, uint64_t salt) {
-    uintptr_t key = mix(caller ^ (uintptr_t)GET(epoch) << 48, salt);
+/* How many words above its return address a small function has that of its caller, in the low 16 bits below the return address. */
+extern uint64_t hops[HOP_SLOTS];
+static inline uint64_t *hop_of(uintptr_t at) { return &hops[(at ^ at >> 12) % HOP_SLOTS]; }
+
+/* Tells acquisitions apart: by the caller, by the callers of small functions, which may wrap the call, and by the lock or its class. */
+static inline uintptr_t site_key(caller_t caller, uint64_t salt) {
+    uintptr_t key = mix(*caller ^ (uintptr_t)GET(epoch) << 48, salt);
+    for (int i = 0; i < HOPS; i++) {
+        uint64_t hop = GET(*hop_of(*caller));
+        if (likely(hop >> 16 != *caller || !(hop & 0xffff))) break;
+        caller += hop & 0xffff;
+        key = mix(key, *caller);
+    }
+    return key;
+}
+
+/* The site of an acquisition: the first stack that such a call had. */
+static inline uint32_t site_of(struct thread *t, caller_t caller, uint64_t salt) {
+    uintptr_t key = site_key(caller, salt);
     unsigned slot = key % CACHE;
-    return likely(t->sites[slot].key == key) ? t->sites[slot].site : slow_site_of(t, key, caller);
+    return likely(t->sites[slot].key == key) ? t->sites[slot].site : slow_site_of(t, caller, salt);
 }
 
 /* ---- paths.c ---- */
@@ -271,6 +301,7 @@ void forget_paths(void);
 /* ---- notes.c ---- */
 enum { NOTE_BUCKETS = 256 };
 extern struct note *notes[NOTE_BUCKETS];
+extern bool has_fork_notes;
 void keep_note(struct thread *t, char what, void *object, struct lock *mutex, uint32_t site);
 void forget_notes(void);
 

@@ -27,7 +27,7 @@ static struct thread *new_thread(uint32_t tid) {
         return NULL;
     }
     memset(t->locks, 0, sizeof t->locks), memset(t->sites, 0, sizeof t->sites), memset(t->seen, 0, sizeof t->seen);
-    t->busy = t->dump_later = 0, t->grew = false, t->rounds = 0, t->refused = NULL, t->once = NULL;
+    t->busy = t->dump_later = 0, t->grew = t->watches = false, t->rounds = 0, t->refused = NULL, t->once = NULL;
     t->handed_seen = t->segment = 0, t->n_held = 0;
     SET(t->n_path, 0), SET(t->waits_op, OP_NONE), SET(t->sleeps_on, NULL), SET(t->waits_lock, NULL);
     SET(t->tid, tid), SET(t->party, made[tid].party), SET(t->in_use, true);
@@ -88,7 +88,7 @@ static uint32_t party_of(uintptr_t start, uint64_t key, int n, const uintptr_t *
 }
 
 /* The number of a thread that its parent is about to make. */
-uint32_t thread_is_made(struct thread *parent, uintptr_t start, uintptr_t caller) {
+uint32_t thread_is_made(struct thread *parent, uintptr_t start, caller_t caller) {
     uintptr_t frames[STACK_MAX];
     int n = stack_of(caller, frames, STACK_MAX);
     uint64_t key = start;
@@ -134,8 +134,38 @@ void name_thread(uint32_t tid, const char *name) {
     leave();
 }
 
+static struct {
+    bool had_others; /* the process that was forked */
+    uint32_t thread, party, born;
+} forked;
+
+/* Whether another thread than the one that forked may have held the lock at the fork. */
+static bool may_be_stuck(struct lock *lock) {
+    uint64_t others = ~(1ull << (forked.party < 63 ? forked.party : 63));
+    bool is_new = lock->born >= forked.born || lock->watched;
+    lock->watched = true;
+    uint32_t owner = GET(lock->owner);
+    return !is_new && ((owner && owner != forked.thread + 1) || (lock->flat[0].parties | lock->flat[1].parties) & others);
+}
+
+/* Notes an acquisition by a signal handler, and the first of a lock that a forked child has from its parent. */
+void watch(struct thread *t, struct lock *lock, uint32_t site) {
+    t->watches = forked.had_others;
+    if (all_sites[site]->in_handler) keep_note(t, 's', lock->addr, lock, site);
+    if (forked.had_others && may_be_stuck(lock)) keep_note(t, 'f', lock->addr, lock, site);
+}
+
+static void note_fork(const struct thread *self) {
+    forked.had_others = false;
+    for (uint32_t i = 0; self && i < n_made; i++) forked.had_others |= i != self->tid && !made[i].joined; /* one that ended might not have */
+    if (!forked.had_others) return;
+    forked.thread = self->tid, forked.party = self->party, forked.born = n_born;
+    for (int k = 0; k < self->n_held; k++) self->held[k].lock->watched = true; /* its own */
+}
+
 /* In a forked child: its one thread is the first, and the others are not there. */
 void threads_in_child(struct thread *self) {
+    note_fork(self);
     for (struct thread *t = threads; t; t = t->next)
         if (t != self && t->in_use) t->in_use = false;
     for (uint32_t i = 0; i < n_parties; i++) parties[i].live = parties[i].peak = parties[i].threads = parties[i].late = 0;
@@ -145,5 +175,6 @@ void threads_in_child(struct thread *self) {
     parties[0].threads = parties[0].live = parties[0].peak = 1;
     if (!self) return;
     self->tid = self->party = self->segment = 0;
+    self->watches = forked.had_others;
     memset(self->seen, 0, sizeof self->seen);
 }

@@ -150,11 +150,22 @@ static void put_paths(void) {
         }
 }
 
+static const char *name_of_note(char what) {
+    switch (what) {
+    case 'w': return "wait";
+    case 't': return "timedwait";
+    case 'b': return "barrier";
+    case 'x': return "futex";
+    case 's': return "handler";
+    case 'f': return "forked";
+    default: return "notify";
+    }
+}
+
 static void put_notes(void) {
     for (int b = 0; b < NOTE_BUCKETS; b++)
         for (const struct note *n = notes[b]; n; n = n->next) {
-            const char *what = n->what == 'w' ? "wait" : n->what == 't' ? "timedwait" : n->what == 'b' ? "barrier" : "notify";
-            put("%s %u %x %u %u", what, n->party, (uint64_t)(uintptr_t)n->object, n->mutex, n->site);
+            put("%s %u %x %u %u", name_of_note(n->what), n->party, (uint64_t)(uintptr_t)n->object, n->mutex, n->site);
             for (int i = 0; i < n->n; i++) put(" %u", n->held[i]);
             put("\n");
         }
@@ -170,7 +181,8 @@ static void put_present(const struct thread *t) {
     void *sleeps_on = GET(t->sleeps_on);
     struct lock *l = GET(t->waits_lock);
     uint8_t op = GET(t->waits_op);
-    if (sleeps_on) put(" sleeps %s:%x:%u", GET(t->sleeps_kind) == 'b' ? "barrier" : "condvar", (uint64_t)(uintptr_t)sleeps_on, GET(t->waits_site));
+    char kind = GET(t->sleeps_kind);
+    if (sleeps_on) put(" sleeps %s:%x:%u", kind == 'b' ? "barrier" : kind == 'x' ? "futex" : "condvar", (uint64_t)(uintptr_t)sleeps_on, GET(t->waits_site));
     else if (op == OP_JOIN || (op != OP_NONE && l && l->pinned)) {
         put(" waits");
         put_call(op, op == OP_JOIN ? GET(t->waits_party) : l->id, GET(t->waits_site));
@@ -247,7 +259,7 @@ static int open_record(void) {
 /* A child that made no thread is worth a record only if it waits, perhaps for itself. The program itself always is. */
 static bool is_worth_writing(void) {
     if (!ready || !*record_prefix || !is_recorder_of_this_process()) return false;
-    return GET(n_made) > 1 || getppid() == driver_pid || (threads && GET(threads->waits_op) != OP_NONE);
+    return GET(n_made) > 1 || has_fork_notes || getppid() == driver_pid || (threads && GET(threads->waits_op) != OP_NONE);
 }
 
 /* Writes the record. A full disk or a limit on the size of files cuts it off, and does not end the program. No part of it may be cancelled. */

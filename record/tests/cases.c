@@ -39,10 +39,10 @@ static int hang(void) {
     return pthread_join(t[0], NULL);
 }
 
-static pthread_mutex_t m[60];
+static pthread_mutex_t m[110];
 THREAD(hold_many) {
-    for (int i = 0; i < 60; i++) LOCK(m[i]);
-    for (int i = 0; i < 60; i++) UNLOCK(m[i]);
+    for (int i = 0; i < 110; i++) LOCK(m[i]);
+    for (int i = 0; i < 110; i++) UNLOCK(m[i]);
     return next(x);
 }
 static int hold(void) { return IN_TURN(hold_many), 0; }
@@ -88,6 +88,34 @@ static int unload(const char *path) {
     return pthread_join(t[0], NULL) + pthread_join(t[1], NULL);
 }
 
+/* The plugin calls back, and never gets control again: its module goes below it. */
+static void *closing;
+static void close_and_exit(void) {
+    dlclose(closing);
+    in_order();
+    exit(8);
+}
+static int unload_caller(const char *path) {
+    closing = dlopen(path, RTLD_NOW);
+    if (!closing) return fprintf(stderr, "%s\n", dlerror()), 1;
+    ((void (*)(void (*)(void)))dlsym(closing, "call"))(close_and_exit);
+    return 1;
+}
+
+THREAD(use_and_destroy) {
+    pthread_mutex_t own = PTHREAD_MUTEX_INITIALIZER;
+    LOCK(own);
+    UNLOCK(own);
+    pthread_mutex_destroy(&own);
+    return next(x);
+}
+static int destroy(void) { return IN_TURN(use_and_destroy), 0; }
+
+static int call_abort(void) {
+    both_orders();
+    abort();
+}
+
 static void unlock(void *m) { pthread_mutex_unlock(m); }
 static void *sleep_until_cancelled(void *x) {
     static pthread_cond_t never = PTHREAD_COND_INITIALIZER;
@@ -111,9 +139,10 @@ int main(int argc, char **argv) {
         const char *word;
         int (*does)(void);
     } words[] = {
-        {"both-orders", both_orders}, {"hang", hang}, {"hold", hold}, {"signals", see_signals}, {"exec", call_exec}, {"fork", fork_child}, {"cancel", cancel},
+        {"both-orders", both_orders}, {"hang", hang}, {"hold", hold}, {"signals", see_signals}, {"exec", call_exec}, {"fork", fork_child}, {"cancel", cancel}, {"abort", call_abort},
+        {"destroy", destroy}, {"in-order", in_order},
     };
-    if (argc == 3) return unload(argv[2]); /* cases unload PLUGIN */
+    if (argc == 3) return argv[1][0] == 'u' ? unload(argv[2]) : unload_caller(argv[2]); /* cases unload|close PLUGIN */
     for (size_t i = 0; argc == 2 && i < sizeof words / sizeof *words; i++)
         if (!strcmp(argv[1], words[i].word)) return words[i].does();
     return argc == 1 ? 0 : atoi(argv[1]);

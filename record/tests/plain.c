@@ -19,7 +19,7 @@ THREAD(two_request) {
 }
 THREAD(two_cleaner) {
     proved_mutex_lock(&journal);
-    proved_mutex_lock_until(&sessions, NULL); /* waits */
+    if (!proved_mutex_lock_until(&sessions, NULL)) return NULL; /* waits */
     proved_mutex_unlock(&sessions);
     proved_mutex_unlock(&journal);
     return next(x);

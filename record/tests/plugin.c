@@ -10,3 +10,9 @@ void use(pthread_mutex_t *first, pthread_mutex_t *second) {
     pthread_mutex_unlock(first);
     pthread_mutex_unlock(&gate);
 }
+
+void call(void (*back)(void));
+void call(void (*back)(void)) {
+    back();
+    __asm__ volatile(""); /* no tail call: the stack goes through this module */
+}

@@ -12,15 +12,15 @@ static int left = THREADS;
 
 static struct lock *lock_of(struct thread *t, void *addr) {
     struct lock *l = find_lock(addr);
-    return l ? l : make_lock(addr, MUTEX, site_of(t, (uintptr_t)addr, 1), false);
+    return l ? l : make_lock(addr, MUTEX, site_of(t, &(uintptr_t){(uintptr_t)addr}, 1), false);
 }
 
 /* Acquires two shared locks and one that comes and goes, in the order of their numbers. */
 static void turn(struct thread *t, int i, char *own) {
     struct lock *a = lock_of(t, shared[i % SHARED]), *b = lock_of(t, shared[(i + 1 + i / SHARED) % SHARED]);
     if (a == b) return;
-    struct lock *c = make_lock(own, MUTEX, site_of_stack((uintptr_t)turn), true);
-    uint32_t site = site_of(t, (uintptr_t)turn + i % 16, salt_of(a));
+    struct lock *c = make_lock(own, MUTEX, site_of_stack(&(uintptr_t){(uintptr_t)turn}), true);
+    uint32_t site = site_of(t, &(uintptr_t){(uintptr_t)turn + i % 16}, salt_of(a));
     acquired(t, a, OP_LOCK, site);
     acquired(t, b, OP_LOCK | (i % 3 ? 0 : OP_TRY), site);
     if (c) acquired(t, c, OP_LOCK, site);

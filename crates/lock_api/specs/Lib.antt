@@ -57,6 +57,8 @@ pub use Rattle.lock_one.specs.Machine as CallMachine
 pub use Rattle.lock_one.specs.Steps as CallSteps
 pub use Rattle.lock_one.specs.Answers
 pub use Rattle.lock_one.specs.Runs as CallRuns
+pub use Rattle.lock_one.specs.Bars as CallBars
+pub use Rattle.lock_one.specs.Turn as CallTurns
 pub use Rattle.lock_one.specs.Stored
 pub use Rattle.lock_one_word.specs.Seats as WordSeats
 pub use Rattle.lock_one_word.specs.Calls as WordCalls
@@ -75,6 +77,9 @@ pub use Rattle.lock_ruled.specs.With
 pub use Rattle.lock_ruled.specs.Accounts
 pub use Rattle.lock_ruled.specs.Acquiring
 pub use Rattle.lock_ruled.specs.PermitCalls
+pub use Rattle.lock_events.specs.Words as EventWords
+pub use Rattle.lock_events.specs.Events
+pub use Rattle.lock_events.specs.Kept as EventsKept
 pub use Rattle.lock_wake.specs.EventCounts
 pub use Rattle.lock_wake.specs.EventCalls
 pub use Rattle.lock_desk.specs.Closures

@@ -3,6 +3,7 @@
 mod full_raw_lock;
 
 pub use full_raw_lock::{FullRawLock, FullRawLockTimed, WaiterOf};
+pub use lock_events::Begun;
 pub use lock_modes::{DEFAULT_LEVELS, DEFAULT_READERS, Levels, MAX_LIMIT, is_limit};
 pub use lock_one_word::{OneRule, OneView, WordLock, WordToken};
 pub use lock_raws::{
@@ -16,8 +17,8 @@ pub use lock_raws_fair::{
     TIMED_SPAN, Ticket, TimedFairRaw,
 };
 pub use lock_wake::{
-    CallStage, CountRule, EventCount, HeldLock, LockEvents, Notified, Passed, Registered, Slept,
-    time_left, time_until,
+    CountRule, EventCount, HeldLock, LockEvents, Notified, Passed, Registered, Slept, time_left,
+    time_until,
 };
 pub use lock_word::seated::{Attempt, Party, SeatView, SeatedLock, WordRule};
 pub use lock_word::{

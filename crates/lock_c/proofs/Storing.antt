@@ -9,6 +9,8 @@ use Rattle.lock_word.specs.declared.down.Down.TheVariants as down
 use Rattle.lock_word.specs.Word.{amount}
 use Rattle.lock_one.specs.declared.action.Action.{Action}
 use Rattle.lock_one.specs.declared.action.Action.TheVariants as one
+use Rattle.lock_one.specs.declared.action.Sleeper.{Sleeper}
+use Rattle.lock_one.specs.declared.action.Sleeper.TheVariants as sleeper
 use Rattle.lock_one.specs.declared.call.Call.{Call}
 use Rattle.lock_one.specs.declared.park.Debt.{Debt}
 use Rattle.lock_one.specs.declared.park.Debt.TheVariants as debt
@@ -16,8 +18,7 @@ use Rattle.lock_one.specs.declared.park.ParkLimits.{ParkLimits}
 use Rattle.lock_one.specs.declared.park.ParkView.{ParkView}
 use Rattle.lock_one.specs.declared.stage.Stage.{Stage}
 use Rattle.lock_one.specs.declared.stage.Stage.TheVariants as stage
-use Rattle.lock_one.specs.Rule.{is_upgrade}
-use Rattle.lock_one.specs.Machine.{Progress, sleep_of, begun, goes_to, release_on, alone, taking}
+use Rattle.lock_one.specs.Machine.{Progress, class_of, is_brief, sleep_of, begun, goes_to, release_on, alone, taking}
 use Rattle.lock_one.specs.Steps.{made, limits_of, hold_at, is_step, IsAt, IsPause, IsWake}
 use Rattle.lock_one.specs.Stored.{stored_of, word_of_stored}
 use Rattle.lock_one.proofs.Actions.{subtracts_own}
@@ -28,7 +29,7 @@ use Rattle.lock_c.specs.Storing.{stored_after, is_exchange, InHalf, StoringKeeps
 
 -- a word that 32 bits store
 record Fits (word : ℕ) : Type 0 where
-  small : word < 2 ^ 36
+  small : word < 2 ^ 37
   half : stored_of word < 2 ^ 32
 
 word_fits : (limits : ParkLimits) (word : ℕ) (views : List ParkView) → InHalf limits word views → Fits word
@@ -74,11 +75,13 @@ made_alike : (action : Action) (word : ℕ) → Fits word → Serves action word
 made_alike one.Load word hw h = refl
 made_alike (one.Exchange a b) word hw h = exchanges a b word h.0 h.1 hw
 made_alike (one.Subtract d) word hw h = h
-made_alike (one.Park n true) word hw h = refl
-made_alike (one.Park n false) word hw h = refl
+made_alike (one.Park n sleeper.Next b) word hw h = refl
+made_alike (one.Park n sleeper.Reader b) word hw h = refl
+made_alike (one.Park n sleeper.Other b) word hw h = refl
 made_alike one.WakeOne word hw h = refl
 made_alike one.WakeAll word hw h = refl
 made_alike one.WakeNext word hw h = refl
+made_alike one.WakeTurn word hw h = refl
 made_alike (one.Spin n) word hw h = refl
 made_alike one.Yield word hw h = refl
 made_alike (one.End true) word hw h = refl
@@ -92,9 +95,9 @@ record OfLoaded (call : Call) (action : Action) : Type 0 where
 not_exchange : {A : Type 0} (action other : Action) → action ≡ other → is_exchange other ≡ false → IsTrue (is_exchange action) → A
 not_exchange action other same none is = absurd (false≢true (sym none ∙ (sym (ap is_exchange same) ∙ is)))
 
-sleep_is_none : (few passes : Bool) (n : ℕ) → is_exchange (if few then one.Park n passes else one.Yield) ≡ false
-sleep_is_none true passes n = refl
-sleep_is_none false passes n = refl
+sleep_is_none : (few : Bool) (class : Sleeper) (brief : Bool) (n : ℕ) → is_exchange (if few then one.Park n class brief else one.Yield) ≡ false
+sleep_is_none true class brief n = refl
+sleep_is_none false class brief n = refl
 
 rest_is_none : (action : Action) → IsPause action → is_exchange action ≡ false
 rest_is_none (one.Spin n) rests = refl
@@ -105,6 +108,7 @@ wake_is_none debt.Nothing action wakes is = absurd wakes
 wake_is_none debt.One action wakes is = not_exchange action one.WakeOne wakes refl is
 wake_is_none debt.All action wakes is = not_exchange action one.WakeAll wakes refl is
 wake_is_none debt.Next action wakes is = not_exchange action one.WakeNext wakes refl is
+wake_is_none debt.Turn action wakes is = not_exchange action one.WakeTurn wakes refl is
 
 of_loaded : (at : Stage) (call : Call) (v : ParkView) (action : Action) → IsAt at call v action → IsTrue (is_exchange action)
     → OfLoaded call action
@@ -113,14 +117,15 @@ of_loaded stage.Try call v action h is = record { left = _; is = h.2 }
 of_loaded stage.Pause call v action h is = absurd (false≢true (sym (rest_is_none action h.1) ∙ is))
 of_loaded stage.Mark call v action h is = record { left = _; is = h.4 }
 of_loaded stage.Sleep call v action h is =
-    not_exchange action (sleep_of call) h.5 (sleep_is_none (nat_lt call.readers (2 ^ 28)) (call.announced || is_upgrade call.want) call.loaded) is
-of_loaded stage.Withdraw call v action h is = record { left = _; is = h.2 }
+    not_exchange action (sleep_of call) h.5 (sleep_is_none (nat_lt call.readers (2 ^ 27)) (class_of call.announced call.want) (is_brief call) call.loaded) is
+of_loaded stage.Withdraw call v action h is = record { left = _; is = h.4 }
 of_loaded stage.Leave call v action h is = record { left = _; is = h.4 }
 of_loaded stage.LookToRemove call v action h is = not_exchange action one.Load h.2 refl is
 of_loaded stage.Subtract call v action h is = not_exchange action (one.Subtract call.down) h.2 refl is
 of_loaded stage.Release call v action h is = record { left = _; is = h.2 }
 of_loaded stage.Wake call v action h is = wake_is_none v.debt action h.1 is
 of_loaded stage.WakeRefused call v action h is = not_exchange action one.WakeAll h.2 refl is
+of_loaded stage.WakeAcquired call v action h is = not_exchange action one.WakeAll h.2 refl is
 of_loaded stage.Acquired call v action h is = not_exchange action (one.End true) h.1 refl is
 of_loaded stage.Refused call v action h is = not_exchange action (one.End false) h.1 refl is
 of_loaded stage.Ended call v action h is = not_exchange action (one.End true) h.1 refl is
@@ -154,10 +159,11 @@ module _ (call : Call) (v : ParkView) (action : Action) (before : Hold) (k : ℕ
       subst (λ x. Serves x word) (sym same)
       (storing_keeps_words.subtracts (limits_of call) word now k v d (2 ^ 32) h.limit h.keeps is own (word_fits (limits_of call) word now h).half half)
   serves earlier now word found h is one.Load same = subst (λ x. Serves x word) (sym same) tt
-  serves earlier now word found h is (one.Park n passes) same = subst (λ x. Serves x word) (sym same) tt
+  serves earlier now word found h is (one.Park n class brief) same = subst (λ x. Serves x word) (sym same) tt
   serves earlier now word found h is one.WakeOne same = subst (λ x. Serves x word) (sym same) tt
   serves earlier now word found h is one.WakeAll same = subst (λ x. Serves x word) (sym same) tt
   serves earlier now word found h is one.WakeNext same = subst (λ x. Serves x word) (sym same) tt
+  serves earlier now word found h is one.WakeTurn same = subst (λ x. Serves x word) (sym same) tt
   serves earlier now word found h is (one.Spin n) same = subst (λ x. Serves x word) (sym same) tt
   serves earlier now word found h is one.Yield same = subst (λ x. Serves x word) (sym same) tt
   serves earlier now word found h is (one.End b) same = subst (λ x. Serves x word) (sym same) tt
@@ -180,10 +186,10 @@ alone_fits readers word down.ToUpgradable = (record { small = omega arith; half 
 alone_fits readers word down.UpgradableToShared = (record { small = omega arith; half = omega arith }, record { small = omega arith; half = omega arith })
 alone_fits readers word down.Withdraw = (record { small = omega arith; half = omega arith }, record { small = omega arith; half = omega arith })
 
-park_compares : (few passes : Bool) (n word : ℕ) → few ≡ true → Fits n → Fits word
-    → (stored_of word == (step_of (if few then one.Park n passes else one.Yield)).first) ≡ (word == n)
-park_compares true passes n word is hn hw = compares word n hw hn
-park_compares false passes n word is hn hw = absurd (false≢true is)
+park_compares : (few : Bool) (class : Sleeper) (brief : Bool) (n word : ℕ) → few ≡ true → Fits n → Fits word
+    → (stored_of word == (step_of (if few then one.Park n class brief else one.Yield)).first) ≡ (word == n)
+park_compares true class brief n word is hn hw = compares word n hw hn
+park_compares false class brief n word is hn hw = absurd (false≢true is)
 
 pub storing_keeps_steps : StoringKeepsSteps
 storing_keeps_steps =
@@ -196,6 +202,6 @@ storing_keeps_steps =
           made_alike (taking readers release).1 word record { small = small; half = half } (alone_fits readers word release);
       parks = λ call v action earlier now word at found h.
           rw at.5
-          (park_compares (nat_lt call.readers (2 ^ 28)) (call.announced || is_upgrade call.want) call.loaded word (lt-ltb _ _ found.few)
+          (park_compares (nat_lt call.readers (2 ^ 27)) (class_of call.announced call.want) (is_brief call) call.loaded word (lt-ltb _ _ found.few)
           (word_fits (limits_of call) call.loaded earlier found) (word_fits (limits_of call) word now h));
     }

@@ -15,7 +15,7 @@ abbrev pub number_of_code : Code → ℕ
 number_of_code code.Load = 0
 number_of_code code.Exchange = 1
 number_of_code code.Subtract = 2
-number_of_code code.Store = 3
+number_of_code code.Or = 3
 number_of_code code.Park = 4
 number_of_code code.ParkNext = 5
 number_of_code code.WakeOne = 6
@@ -27,6 +27,8 @@ number_of_code code.Refused = 11
 number_of_code code.Done = 12
 number_of_code code.Unlock = 13
 number_of_code code.Lock = 14
+number_of_code code.ParkReader = 15
+number_of_code code.WakeTurn = 16
 
 abbrev pub number_of_want : ExWant → ℕ
 number_of_want want.Shared = 0
@@ -75,39 +77,35 @@ number_of_stage stage.WakeRefused = 11
 number_of_stage stage.Acquired = 12
 number_of_stage stage.Refused = 13
 number_of_stage stage.Ended = 14
+number_of_stage stage.WakeAcquired = 15
 
 abbrev pub stage_of : ℕ → Stage
 stage_of n =
     if n == 0 then stage.Look else if n == 1 then stage.Try else if n == 2 then stage.Pause else if n == 3 then stage.Mark else
     if n == 4 then stage.Sleep else if n == 5 then stage.Withdraw else if n == 6 then stage.Leave else if n == 7 then stage.LookToRemove else
     if n == 8 then stage.Subtract else if n == 9 then stage.Release else if n == 10 then stage.Wake else if n == 11 then stage.WakeRefused else
-    if n == 12 then stage.Acquired else if n == 13 then stage.Refused else stage.Ended
+    if n == 12 then stage.Acquired else if n == 13 then stage.Refused else if n == 14 then stage.Ended else stage.WakeAcquired
 
 abbrev pub number_of_event_stage : EventStage → ℕ
-number_of_event_stage event.FindCount = 0
+number_of_event_stage event.Look = 0
 number_of_event_stage event.CountIn = 1
-number_of_event_stage event.YieldAway = 2
-number_of_event_stage event.WatchEpoch = 3
-number_of_event_stage event.Unlock = 4
-number_of_event_stage event.Sleep = 5
-number_of_event_stage event.YieldCounted = 6
-number_of_event_stage event.Leave = 7
-number_of_event_stage event.FindEpoch = 8
-number_of_event_stage event.CloseCount = 9
-number_of_event_stage event.RestartEpochs = 10
-number_of_event_stage event.OpenCount = 11
-number_of_event_stage event.Lock = 12
-number_of_event_stage event.Waited = 13
-number_of_event_stage event.FindWaits = 14
-number_of_event_stage event.NoteEpoch = 15
-number_of_event_stage event.EndEpoch = 16
-number_of_event_stage event.Wake = 17
-number_of_event_stage event.Notified = 18
+number_of_event_stage event.Unlock = 2
+number_of_event_stage event.Sleep = 3
+number_of_event_stage event.Leave = 4
+number_of_event_stage event.UnlockAway = 5
+number_of_event_stage event.YieldAway = 6
+number_of_event_stage event.Lock = 7
+number_of_event_stage event.Waited = 8
+number_of_event_stage event.FindWaits = 9
+number_of_event_stage event.EndEpoch = 10
+number_of_event_stage event.EndAllEpochs = 11
+number_of_event_stage event.Wake = 12
+number_of_event_stage event.Notified = 13
+number_of_event_stage event.Skipped = 14
 
 abbrev pub event_stage_of : ℕ → EventStage
 event_stage_of n =
-    if n == 0 then event.FindCount else if n == 1 then event.CountIn else if n == 2 then event.YieldAway else if n == 3 then event.WatchEpoch else
-    if n == 4 then event.Unlock else if n == 5 then event.Sleep else if n == 6 then event.YieldCounted else if n == 7 then event.Leave else
-    if n == 8 then event.FindEpoch else if n == 9 then event.CloseCount else if n == 10 then event.RestartEpochs else if n == 11 then event.OpenCount else
-    if n == 12 then event.Lock else if n == 13 then event.Waited else if n == 14 then event.FindWaits else if n == 15 then event.NoteEpoch else
-    if n == 16 then event.EndEpoch else if n == 17 then event.Wake else event.Notified
+    if n == 0 then event.Look else if n == 1 then event.CountIn else if n == 2 then event.Unlock else if n == 3 then event.Sleep else
+    if n == 4 then event.Leave else if n == 5 then event.UnlockAway else if n == 6 then event.YieldAway else if n == 7 then event.Lock else
+    if n == 8 then event.Waited else if n == 9 then event.FindWaits else if n == 10 then event.EndEpoch else if n == 11 then event.EndAllEpochs else
+    if n == 12 then event.Wake else if n == 13 then event.Notified else event.Skipped

@@ -4,17 +4,18 @@ use Rattle.lock_word.specs.declared.want.ExWant.{ExWant}
 use Rattle.lock_word.specs.declared.down.Down.{Down}
 use Rattle.lock_one.specs.declared.action.Action.{Action}
 use Rattle.lock_one.specs.declared.action.Action.TheVariants as one
+use Rattle.lock_one.specs.declared.action.Sleeper.{Sleeper}
+use Rattle.lock_one.specs.declared.action.Sleeper.TheVariants as sleeper
 use Rattle.lock_one.specs.declared.call.Call.{Call}
 use Rattle.lock_one.specs.Stored.{stored_of, stored_amount}
 use Rattle.lock_events.specs.declared.action.EventAction.{EventAction}
 use Rattle.lock_events.specs.declared.action.EventAction.TheVariants as event
-use Rattle.lock_events.specs.declared.action.EventPlace.{EventPlace}
-use Rattle.lock_events.specs.declared.action.EventPlace.TheVariants as place
 use Rattle.lock_events.specs.declared.call.EventCall.{EventCall}
 use Rattle.lock_c.specs.declared.codes.Code.{Code}
 use Rattle.lock_c.specs.declared.codes.Code.TheVariants as code
 use Rattle.lock_c.specs.declared.LockCall.{LockCall}
 use Rattle.lock_c.specs.declared.LockEvent.{LockEvent}
+use Rattle.lock_c.specs.declared.LockEventStep.{LockEventStep}
 use Rattle.lock_c.specs.declared.LockStep.{LockStep}
 use Rattle.lock_c.specs.Codes.{number_of_code, number_of_want, want_of, number_of_down, down_of, bit, is_set, number_of_stage, stage_of, number_of_event_stage, event_stage_of}
 
@@ -38,7 +39,8 @@ packed call = record {
   announces = bit call.announces;
   announced = bit call.announced;
   late = bit call.late;
-  slept = bit call.slept;
+  sleeps = call.sleeps;
+  turned = bit call.turned;
 }
 
 abbrev pub unpacked : LockCall → Call
@@ -50,8 +52,9 @@ unpacked c = record {
   blocks = is_set c.blocks;
   announces = is_set c.announces;
   announced = is_set c.announced;
+  turned = is_set c.turned;
   late = is_set c.late;
-  slept = is_set c.slept;
+  sleeps = c.sleeps;
   pauses = c.pauses;
   loaded = c.loaded;
   left = c.left;
@@ -62,12 +65,13 @@ packed_event call = record {
   loaded = call.loaded;
   epoch = call.epoch;
   stage = number_of_event_stage call.stage;
+  lost = call.lost;
   all = bit call.all;
   late = bit call.late;
 }
 
 abbrev pub unpacked_event : LockEvent → EventCall
-unpacked_event c = record { stage = event_stage_of c.stage; all = is_set c.all; late = is_set c.late; loaded = c.loaded; epoch = c.epoch }
+unpacked_event c = record { stage = event_stage_of c.stage; all = is_set c.all; late = is_set c.late; lost = c.lost; loaded = c.loaded; epoch = c.epoch }
 
 abbrev pub step : Code → ℕ → ℕ → ℕ → LockStep
 step kind place first second = record { action = number_of_code kind; place = place; first = first; second = second }
@@ -76,34 +80,40 @@ step kind place first second = record { action = number_of_code kind; place = pl
 abbrev pub half_of : ℕ → ℕ
 half_of word = stored_of word % 2 ^ 32
 
+-- the step of a sleeper of this class
+abbrev pub code_of : Sleeper → Code
+code_of sleeper.Next = code.ParkNext
+code_of sleeper.Reader = code.ParkReader
+code_of sleeper.Other = code.Park
+
 abbrev pub step_of : Action → LockStep
 step_of one.Load = step code.Load 0 0 0
 step_of (one.Exchange a b) = step code.Exchange 0 (half_of a) (half_of b)
 step_of (one.Subtract d) = step code.Subtract 0 (stored_amount (2 ^ 32) d) 0
-step_of (one.Park n passes) = step (if passes then code.ParkNext else code.Park) 0 (half_of n) 0
+step_of (one.Park n class brief) = step (code_of class) 0 (half_of n) (bit brief)
 step_of one.WakeOne = step code.WakeOne 0 0 0
 step_of one.WakeAll = step code.WakeAll 0 0 0
 step_of one.WakeNext = step code.WakeNext 0 0 0
+step_of one.WakeTurn = step code.WakeTurn 0 0 0
 step_of (one.Spin n) = step code.Spin 0 n 0
 step_of one.Yield = step code.Yield 0 0 0
 step_of (one.End b) = step (if b then code.Done else code.Refused) 0 0 0
 
-abbrev pub number_of_place : EventPlace → ℕ
-number_of_place place.Count = 0
-number_of_place place.Epoch = 1
+abbrev pub event_step : Code → ℕ → ℕ → LockEventStep
+event_step kind first second = record { action = number_of_code kind; first = first; second = second }
 
-abbrev pub step_of_event : EventAction → LockStep
-step_of_event (event.Load p) = step code.Load (number_of_place p) 0 0
-step_of_event (event.Exchange p a b) = step code.Exchange (number_of_place p) a b
-step_of_event (event.Subtract p a) = step code.Subtract (number_of_place p) a 0
-step_of_event event.Restart = step code.Store 1 0 0
-step_of_event (event.Park e) = step code.Park 1 e 0
-step_of_event event.WakeOne = step code.WakeOne 1 0 0
-step_of_event event.WakeAll = step code.WakeAll 1 0 0
-step_of_event event.Yield = step code.Yield 0 0 0
-step_of_event event.Unlock = step code.Unlock 0 0 0
-step_of_event event.Lock = step code.Lock 0 0 0
-step_of_event (event.End b) = step (if b then code.Done else code.Refused) 0 0 0
+abbrev pub step_of_event : EventAction → LockEventStep
+step_of_event event.Load = event_step code.Load 0 0
+step_of_event (event.Exchange a b) = event_step code.Exchange a b
+step_of_event (event.Subtract a) = event_step code.Subtract a 0
+step_of_event (event.Or a) = event_step code.Or a 0
+step_of_event (event.Park e) = event_step code.Park e 0
+step_of_event event.WakeOne = event_step code.WakeOne 0 0
+step_of_event event.WakeAll = event_step code.WakeAll 0 0
+step_of_event event.Yield = event_step code.Yield 0 0
+step_of_event event.Unlock = event_step code.Unlock 0 0
+step_of_event event.Lock = event_step code.Lock 0 0
+step_of_event (event.End b) = event_step (if b then code.Done else code.Refused) 0 0
 
 -- a call that is packed for C and unpacked again is the same
 abbrev pub PackingKeepsCalls : Type 0

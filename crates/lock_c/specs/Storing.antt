@@ -22,25 +22,25 @@ abbrev pub stored_after : LockStep → ℕ → ℕ
 stored_after s m =
     if s.action == number_of_code code.Exchange then if m == s.first then s.second else m
     else if s.action == number_of_code code.Subtract then (m + (2 ^ 32 - s.first)) % 2 ^ 32
-    else if s.action == number_of_code code.Store then s.first
     else m
 
 abbrev pub is_exchange : Action → Bool
 is_exchange one.Load = false
 is_exchange (one.Exchange a b) = true
 is_exchange (one.Subtract d) = false
-is_exchange (one.Park n f) = false
+is_exchange (one.Park n c b) = false
 is_exchange one.WakeOne = false
 is_exchange one.WakeAll = false
 is_exchange one.WakeNext = false
+is_exchange one.WakeTurn = false
 is_exchange (one.Spin n) = false
 is_exchange one.Yield = false
 is_exchange (one.End b) = false
 
--- the lock has this word, and is for fewer than 2^28 readers
+-- the lock has this word, and is for fewer than 2^27 readers
 pub record InHalf (limits : ParkLimits) (word : ℕ) (views : List ParkView) : Type 0 where
   pub limit : IsLimit limits.readers
-  pub few : limits.readers < 2 ^ 28
+  pub few : limits.readers < 2 ^ 27
   pub keeps : Keeps limits word views
 
 -- THE LAW: the lock stores each word in 32 bits. A step on the number makes of it what the action makes of the word, and the
@@ -55,7 +55,7 @@ pub record StoringKeepsSteps : Type 0 where
       → InHalf (limits_of call) word now → slice_get now k ≡ Some v
       → stored_after (step_of action) (stored_of word) ≡ stored_of (made action word)
   -- a release begins with an exchange of a word that no call has found
-  pub begins : (readers word : ℕ) (down : Down) → word < 2 ^ 36 → stored_of word < 2 ^ 32
+  pub begins : (readers word : ℕ) (down : Down) → word < 2 ^ 37 → stored_of word < 2 ^ 32
       → stored_after (step_of (taking readers down).1) (stored_of word) ≡ stored_of (made (taking readers down).1 word)
   -- a park compares the number as the machine compares the word
   pub parks : (call : Call) (v : ParkView) (action : Action) (earlier now : List ParkView) (word : ℕ) → IsAt stage.Sleep call v action

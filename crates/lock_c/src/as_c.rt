@@ -1,15 +1,15 @@
 //! Calls and steps as C has them.
 ghost use Rattle.std.specs.Prelude.{◌≡◌, ◌^◌};
 ghost use Rattle.lock_one.specs.Stored.{stored_amount};
-ghost use Rattle.lock_c.specs.Packed.{half_of, number_of_place, packed, packed_event, step, step_of, step_of_event, unpacked, unpacked_event};
+ghost use Rattle.lock_c.specs.Packed.{code_of, event_step, half_of, packed, packed_event, step, step_of, step_of_event, unpacked, unpacked_event};
 
 use crate::codes::{
     Code, bit, down_of_number, event_stage_of_number, number_of_code, number_of_down,
     number_of_event_stage, number_of_stage, number_of_want, stage_of_number, want_of_number,
 };
-use crate::{LockCall, LockEvent, LockStep};
-use lock_events::{EventAction, EventCall, EventPlace};
-use lock_one::{Action, Call, stored_amount, to_stored};
+use crate::{LockCall, LockEvent, LockEventStep, LockStep};
+use lock_events::{EventAction, EventCall};
+use lock_one::{Action, Call, Sleeper, stored_amount, to_stored};
 use lock_word::Down;
 
 pub(crate) fn packed(call: &Call) -> LockCall
@@ -27,7 +27,8 @@ pub(crate) fn packed(call: &Call) -> LockCall
         announces: bit(call.announces),
         announced: bit(call.announced),
         late: bit(call.late),
-        slept: bit(call.slept),
+        sleeps: call.sleeps,
+        turned: bit(call.turned),
     }
 }
 
@@ -42,8 +43,9 @@ pub(crate) fn unpacked(call: &LockCall) -> Call
         blocks: call.blocks != 0,
         announces: call.announces != 0,
         announced: call.announced != 0,
+        turned: call.turned != 0,
         late: call.late != 0,
-        slept: call.slept != 0,
+        sleeps: call.sleeps,
         pauses: call.pauses,
         loaded: call.loaded,
         left: call.left,
@@ -57,6 +59,7 @@ pub(crate) fn packed_event(call: &EventCall) -> LockEvent
         loaded: call.loaded,
         epoch: call.epoch,
         stage: number_of_event_stage(call.stage),
+        lost: call.lost,
         all: bit(call.all),
         late: bit(call.late),
     }
@@ -69,6 +72,7 @@ pub(crate) fn unpacked_event(call: &LockEvent) -> EventCall
         stage: event_stage_of_number(call.stage),
         all: call.all != 0,
         late: call.late != 0,
+        lost: call.lost,
         loaded: call.loaded,
         epoch: call.epoch,
     }
@@ -99,6 +103,17 @@ fn half_amount(down: Down) -> u32
     (stored_amount(down) % 4_294_967_296) as u32
 }
 
+/// Returns the step of a sleeper of this class.
+fn code_of(class: Sleeper) -> Code
+    ensures { result ≡ code_of class }
+{
+    match class {
+        Sleeper::Next => Code::ParkNext,
+        Sleeper::Reader => Code::ParkReader,
+        Sleeper::Other => Code::Park,
+    }
+}
+
 pub(crate) fn step_of(next: Action) -> LockStep
     ensures { result ≡ step_of next }
 {
@@ -108,11 +123,13 @@ pub(crate) fn step_of(next: Action) -> LockStep
             step(Code::Exchange, 0, half_of(first), half_of(second))
         }
         Action::Subtract(down) => step(Code::Subtract, 0, half_amount(down), 0),
-        Action::Park(word, false) => step(Code::Park, 0, half_of(word), 0),
-        Action::Park(word, true) => step(Code::ParkNext, 0, half_of(word), 0),
+        Action::Park(word, class, is_brief) => {
+            step(code_of(class), 0, half_of(word), u32::from(is_brief))
+        }
         Action::WakeOne => step(Code::WakeOne, 0, 0, 0),
         Action::WakeAll => step(Code::WakeAll, 0, 0, 0),
         Action::WakeNext => step(Code::WakeNext, 0, 0, 0),
+        Action::WakeTurn => step(Code::WakeTurn, 0, 0, 0),
         Action::Spin(times) => step(Code::Spin, 0, times, 0),
         Action::Yield => step(Code::Yield, 0, 0, 0),
         Action::End(false) => step(Code::Refused, 0, 0, 0),
@@ -120,34 +137,31 @@ pub(crate) fn step_of(next: Action) -> LockStep
     }
 }
 
-fn number_of_place(place: EventPlace) -> u32
-    ensures { result ≡ number_of_place place }
+fn event_step(kind: Code, first: u64, second: u64) -> LockEventStep
+    ensures { result ≡ event_step kind first second }
 {
-    match place {
-        EventPlace::Count => 0,
-        EventPlace::Epoch => 1,
+    LockEventStep {
+        action: u64::from(number_of_code(kind)),
+        first,
+        second,
     }
 }
 
-pub(crate) fn step_of_event(next: EventAction) -> LockStep
+pub(crate) fn step_of_event(next: EventAction) -> LockEventStep
     ensures { result ≡ step_of_event next }
 {
     match next {
-        EventAction::Load(place) => step(Code::Load, number_of_place(place), 0, 0),
-        EventAction::Exchange(place, first, second) => {
-            step(Code::Exchange, number_of_place(place), first, second)
-        }
-        EventAction::Subtract(place, first) => {
-            step(Code::Subtract, number_of_place(place), first, 0)
-        }
-        EventAction::Restart => step(Code::Store, 1, 0, 0),
-        EventAction::Park(epoch) => step(Code::Park, 1, epoch, 0),
-        EventAction::WakeOne => step(Code::WakeOne, 1, 0, 0),
-        EventAction::WakeAll => step(Code::WakeAll, 1, 0, 0),
-        EventAction::Yield => step(Code::Yield, 0, 0, 0),
-        EventAction::Unlock => step(Code::Unlock, 0, 0, 0),
-        EventAction::Lock => step(Code::Lock, 0, 0, 0),
-        EventAction::End(false) => step(Code::Refused, 0, 0, 0),
-        EventAction::End(true) => step(Code::Done, 0, 0, 0),
+        EventAction::Load => event_step(Code::Load, 0, 0),
+        EventAction::Exchange(first, second) => event_step(Code::Exchange, first, second),
+        EventAction::Subtract(first) => event_step(Code::Subtract, first, 0),
+        EventAction::Or(first) => event_step(Code::Or, first, 0),
+        EventAction::Park(epoch) => event_step(Code::Park, epoch, 0),
+        EventAction::WakeOne => event_step(Code::WakeOne, 0, 0),
+        EventAction::WakeAll => event_step(Code::WakeAll, 0, 0),
+        EventAction::Yield => event_step(Code::Yield, 0, 0),
+        EventAction::Unlock => event_step(Code::Unlock, 0, 0),
+        EventAction::Lock => event_step(Code::Lock, 0, 0),
+        EventAction::End(false) => event_step(Code::Refused, 0, 0),
+        EventAction::End(true) => event_step(Code::Done, 0, 0),
     }
 }

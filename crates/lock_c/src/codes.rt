@@ -12,7 +12,7 @@ pub enum Code {
     Load,
     Exchange,
     Subtract,
-    Store,
+    Or,
     Park,
     ParkNext,
     WakeOne,
@@ -24,6 +24,8 @@ pub enum Code {
     Done,
     Unlock,
     Lock,
+    ParkReader,
+    WakeTurn,
 }
 
 pub(crate) fn number_of_code(code: Code) -> u32
@@ -33,7 +35,7 @@ pub(crate) fn number_of_code(code: Code) -> u32
         Code::Load => 0,
         Code::Exchange => 1,
         Code::Subtract => 2,
-        Code::Store => 3,
+        Code::Or => 3,
         Code::Park => 4,
         Code::ParkNext => 5,
         Code::WakeOne => 6,
@@ -45,6 +47,8 @@ pub(crate) fn number_of_code(code: Code) -> u32
         Code::Done => 12,
         Code::Unlock => 13,
         Code::Lock => 14,
+        Code::ParkReader => 15,
+        Code::WakeTurn => 16,
     }
 }
 
@@ -125,6 +129,7 @@ pub(crate) fn number_of_stage(stage: Stage) -> u32
         Stage::Acquired => 12,
         Stage::Refused => 13,
         Stage::Ended => 14,
+        Stage::WakeAcquired => 15,
     }
 }
 
@@ -146,7 +151,8 @@ pub(crate) fn stage_of_number(number: u32) -> Stage
         11 => Stage::WakeRefused,
         12 => Stage::Acquired,
         13 => Stage::Refused,
-        _ => Stage::Ended,
+        14 => Stage::Ended,
+        _ => Stage::WakeAcquired,
     }
 }
 
@@ -154,25 +160,21 @@ pub(crate) fn number_of_event_stage(stage: EventStage) -> u32
     ensures { result ≡ number_of_event_stage stage }
 {
     match stage {
-        EventStage::FindCount => 0,
+        EventStage::Look => 0,
         EventStage::CountIn => 1,
-        EventStage::YieldAway => 2,
-        EventStage::WatchEpoch => 3,
-        EventStage::Unlock => 4,
-        EventStage::Sleep => 5,
-        EventStage::YieldCounted => 6,
-        EventStage::Leave => 7,
-        EventStage::FindEpoch => 8,
-        EventStage::CloseCount => 9,
-        EventStage::RestartEpochs => 10,
-        EventStage::OpenCount => 11,
-        EventStage::Lock => 12,
-        EventStage::Waited => 13,
-        EventStage::FindWaits => 14,
-        EventStage::NoteEpoch => 15,
-        EventStage::EndEpoch => 16,
-        EventStage::Wake => 17,
-        EventStage::Notified => 18,
+        EventStage::Unlock => 2,
+        EventStage::Sleep => 3,
+        EventStage::Leave => 4,
+        EventStage::UnlockAway => 5,
+        EventStage::YieldAway => 6,
+        EventStage::Lock => 7,
+        EventStage::Waited => 8,
+        EventStage::FindWaits => 9,
+        EventStage::EndEpoch => 10,
+        EventStage::EndAllEpochs => 11,
+        EventStage::Wake => 12,
+        EventStage::Notified => 13,
+        EventStage::Skipped => 14,
     }
 }
 
@@ -180,24 +182,20 @@ pub(crate) fn event_stage_of_number(number: u32) -> EventStage
     ensures { result ≡ event_stage_of number }
 {
     match number {
-        0 => EventStage::FindCount,
+        0 => EventStage::Look,
         1 => EventStage::CountIn,
-        2 => EventStage::YieldAway,
-        3 => EventStage::WatchEpoch,
-        4 => EventStage::Unlock,
-        5 => EventStage::Sleep,
-        6 => EventStage::YieldCounted,
-        7 => EventStage::Leave,
-        8 => EventStage::FindEpoch,
-        9 => EventStage::CloseCount,
-        10 => EventStage::RestartEpochs,
-        11 => EventStage::OpenCount,
-        12 => EventStage::Lock,
-        13 => EventStage::Waited,
-        14 => EventStage::FindWaits,
-        15 => EventStage::NoteEpoch,
-        16 => EventStage::EndEpoch,
-        17 => EventStage::Wake,
-        _ => EventStage::Notified,
+        2 => EventStage::Unlock,
+        3 => EventStage::Sleep,
+        4 => EventStage::Leave,
+        5 => EventStage::UnlockAway,
+        6 => EventStage::YieldAway,
+        7 => EventStage::Lock,
+        8 => EventStage::Waited,
+        9 => EventStage::FindWaits,
+        10 => EventStage::EndEpoch,
+        11 => EventStage::EndAllEpochs,
+        12 => EventStage::Wake,
+        13 => EventStage::Notified,
+        _ => EventStage::Skipped,
     }
 }

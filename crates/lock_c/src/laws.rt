@@ -12,7 +12,7 @@ pub fn packing_keeps_events()
     ensures { PackingKeepsEvents }
 {}
 
-/// On a lock for fewer than 2^28 readers, 32 bits cut no number of a step: a step on the stored number is the step on the word.
+/// On a lock for fewer than 2^27 readers, 32 bits cut no number of a step: a step on the stored number is the step on the word.
 pub fn storing_keeps_steps()
     ensures { StoringKeepsSteps }
 {}

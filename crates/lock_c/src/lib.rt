@@ -1,10 +1,10 @@
 //! The machines of `lock_one` and `lock_events` as a static library, for programs in C and Rust.
 //!
-//! The caller owns the word of a lock, or the two words of a condition variable, of 32 bits each. It makes the step that a
-//! function returns, and passes the answer to `lock_c_next` or `lock_c_next_event`. No function blocks, allocates or has a
-//! `requires`, and none reads memory other than its arguments.
+//! The caller owns the word of a lock, of 32 bits, or of a condition variable, of 64 bits. It makes the step that a function
+//! returns, and passes the answer to `lock_c_next` or `lock_c_next_event`. No function blocks, allocates or has a `requires`,
+//! and none reads memory other than its arguments.
 //!
-//! A lock is for fewer than 2^28 readers. After a step that releases, only a wake-up is left, which uses no more than the
+//! A lock is for fewer than 2^27 readers. After a step that releases, only a wake-up is left, which uses no more than the
 //! address of the word.
 #![tactic(auto)]
 
@@ -41,48 +41,54 @@ pub struct LockCall {
     pub announces: u8,
     pub announced: u8,
     pub late: u8,
-    pub slept: u8,
+    pub sleeps: u8,
+    pub turned: u8,
 }
 
 /// A wait or a notification between two of its steps, as in `lock_events::EventCall`. One thread has it at a time.
 #[repr(C)]
 #[derive(Drop)]
 pub struct LockEvent {
-    /// After a notification, how many waits it found.
-    pub loaded: u32,
-    pub epoch: u32,
+    /// The word that the call found last. Its 24 high bits are how many waits are counted.
+    pub loaded: u64,
+    pub epoch: u64,
     pub stage: u32,
+    pub lost: u32,
     pub all: u8,
     pub late: u8,
 }
 
-/// The next step, as in `lock_one::Action` and `lock_events::EventAction`.
+/// The next step, as in `lock_one::Action`.
 #[repr(C)]
 #[derive(Drop)]
 pub struct LockStep {
     /// The number of a `Code`.
     pub action: u32,
-    /// 0 for the word of a lock or the count of a condition variable, 1 for the epoch.
+    /// 0, for the word of the lock.
     pub place: u32,
-    /// A word as the lock stores it, a number of the count or the epoch, or how often to spin.
+    /// A word as the lock stores it, or how often to spin.
     pub first: u32,
+    /// The word that an exchange leaves, or 1 if a sleep is brief.
     pub second: u32,
 }
 
-/// Returns 2, the version of these functions. A program for another version does not link.
-#[unsafe(no_mangle)]
-pub extern "C" fn lock_c_version_2() -> u32
-    ensures { result ≡ 2 }
-{
-    2
+/// The next step on a condition variable, as in `lock_events::EventAction`.
+#[repr(C)]
+#[derive(Drop)]
+pub struct LockEventStep {
+    /// The number of a `Code`.
+    pub action: u64,
+    /// The word that an exchange compares with, or the epoch in which to sleep.
+    pub first: u64,
+    pub second: u64,
 }
 
 /// Begins a call that acquires, and returns its first step.
 ///
 /// `want` is 0 for shared, 1 for exclusive, 2 for upgradable, and 3 for an upgrade. The call blocks unless `blocks` is 0. A
-/// writer sets the bar before it sleeps, or finds one, unless `announces` is 0 or `readers` is 1.
+/// writer sets the bar before it sleeps, or finds one, unless `announces` is 0. If `readers` is 1, it first sleeps four times.
 #[unsafe(no_mangle)]
-pub extern "C" fn lock_c_acquire(
+pub extern "C" fn lock_c_4_acquire(
     call: &mut LockCall,
     readers: u32,
     want: u32,
@@ -107,7 +113,7 @@ pub extern "C" fn lock_c_acquire(
 /// `down` is 0 for a shared, 1 for an exclusive and 2 for an upgradable hold. It is 3 from exclusive to shared, 4 from
 /// exclusive to upgradable, and 5 from upgradable to shared.
 #[unsafe(no_mangle)]
-pub extern "C" fn lock_c_release(call: &mut LockCall, readers: u32, down: u32) -> LockStep
+pub extern "C" fn lock_c_4_release(call: &mut LockCall, readers: u32, down: u32) -> LockStep
     ensures call { call.new ≡ packed (taking readers (asked_down down)).0 }
     ensures step { result ≡ step_of (taking readers (asked_down down)).1 }
 {
@@ -117,8 +123,11 @@ pub extern "C" fn lock_c_release(call: &mut LockCall, readers: u32, down: u32) -
 }
 
 /// Takes the answer to the last step, and returns the next one.
+///
+/// The answer to a sleep is a stored word, too: 32 if the deadline of the call has passed, 64 if the time of a brief sleep is
+/// over, and 0 otherwise.
 #[unsafe(no_mangle)]
-pub extern "C" fn lock_c_next(call: &mut LockCall, found: u32) -> LockStep
+pub extern "C" fn lock_c_4_next(call: &mut LockCall, found: u32) -> LockStep
     ensures call { call.new ≡ packed (next_of (word_of_stored found) (unpacked call.old)).0 }
     ensures step { result ≡ step_of (next_of (word_of_stored found) (unpacked call.old)).1 }
 {
@@ -132,7 +141,7 @@ pub extern "C" fn lock_c_next(call: &mut LockCall, found: u32) -> LockStep
 ///
 /// The wait asks for the release of the mutex, and at its end for the acquisition.
 #[unsafe(no_mangle)]
-pub extern "C" fn lock_c_wait(call: &mut LockEvent) -> LockStep
+pub extern "C" fn lock_c_4_wait(call: &mut LockEvent) -> LockEventStep
     ensures call { call.new ≡ packed_event waiting }
     ensures step { result ≡ step_of_event (action_of waiting) }
 {
@@ -143,7 +152,7 @@ pub extern "C" fn lock_c_wait(call: &mut LockEvent) -> LockStep
 
 /// Begins a notification of all waits, or of one if `all` is 0, and returns its first step.
 #[unsafe(no_mangle)]
-pub extern "C" fn lock_c_notify(call: &mut LockEvent, all: u8) -> LockStep
+pub extern "C" fn lock_c_4_notify(call: &mut LockEvent, all: u8) -> LockEventStep
     ensures call { call.new ≡ packed_event (notifying (is_set all)) }
     ensures step { result ≡ step_of_event (action_of (notifying (is_set all))) }
 {
@@ -154,7 +163,7 @@ pub extern "C" fn lock_c_notify(call: &mut LockEvent, all: u8) -> LockStep
 
 /// Takes the answer to the last step of a wait or a notification, and returns the next one.
 #[unsafe(no_mangle)]
-pub extern "C" fn lock_c_next_event(call: &mut LockEvent, found: u32) -> LockStep
+pub extern "C" fn lock_c_4_next_event(call: &mut LockEvent, found: u64) -> LockEventStep
     ensures call { call.new ≡ packed_event (event_next found (unpacked_event call.old)) }
     ensures step { result ≡ step_of_event (action_of (event_next found (unpacked_event call.old))) }
 {

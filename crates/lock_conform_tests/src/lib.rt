@@ -1,4 +1,4 @@
-//! Scripts of `lock_conform` on an example's raw lock and on the shared locks.
+//! Scripts of `lock_conform` on an example's raw lock.
 #![tactic(auto)]
 
 #[cfg(test)]

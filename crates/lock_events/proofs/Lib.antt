@@ -1,2 +1,5 @@
+pub mod WordLemmas
+pub mod CallSums
+pub mod Steps
 mod Runs
 mod Mutexes

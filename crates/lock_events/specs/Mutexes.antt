@@ -20,9 +20,10 @@ abbrev pub after_answers : Holding → List ℕ → Holding
 after_answers w [] = w
 after_answers w (found ∷ more) = after_answers (record { call = event_next found w.call; held = held_after (action_of w.call) w.held }) more
 
--- a wait sleeps without its mutex and ends with it, releases what it holds and acquires what it does not
+-- a wait sleeps or yields without its mutex and ends with it, releases what it holds and acquires what it does not
 abbrev pub HoldsAt : EventAction → Bool → Type 0
 HoldsAt (action.Park epoch) held = held ≡ false
+HoldsAt action.Yield held = held ≡ false
 HoldsAt action.Unlock held = held ≡ true
 HoldsAt action.Lock held = held ≡ false
 HoldsAt (action.End in_time) held = held ≡ true

@@ -1,29 +1,20 @@
 //! What the driver of a condition variable does next.
 
-/// One of the two words of a condition variable.
-#[derive(Clone, Copy, PartialEq, Eq, Debug)]
-pub enum EventPlace {
-    /// The count of waits.
-    Count,
-    /// The epoch.
-    Epoch,
-}
-
-/// One atomic step on a word, a sleep, a wake-up, a step on the mutex, or the end of the call. The driver answers each with
+/// One atomic step on the word, a sleep, a wake-up, a step on the mutex, or the end of the call. The driver answers each with
 /// a number.
 #[derive(Clone, Copy, PartialEq, Eq, Debug)]
 pub enum EventAction {
     /// Loads the word. The answer is its value.
-    Load(EventPlace),
+    Load,
     /// Replaces the first number by the second one, if the word is the first. The answer is the value before.
-    Exchange(EventPlace, u32, u32),
+    Exchange(u64, u64),
     /// Subtracts the number. The answer is the value before.
-    Subtract(EventPlace, u32),
-    /// Stores 0 in the epoch.
-    Restart,
-    /// Sleeps while the epoch is this number. A sleep may end early. The answer is 1 if the deadline of the call has passed,
-    /// and 0 otherwise.
-    Park(u32),
+    Subtract(u64),
+    /// Sets the bits of the number. The answer is the value before.
+    Or(u64),
+    /// Sleeps while the epoch, the low half of the word, is this number. A sleep may end early. The answer is 1 if the deadline
+    /// of the call has passed, and 0 otherwise.
+    Park(u64),
     /// Wakes one thread that sleeps on the epoch.
     WakeOne,
     /// Wakes all threads that sleep on the epoch.

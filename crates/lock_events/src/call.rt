@@ -1,9 +1,12 @@
 //! A call on a condition variable, step by step.
-ghost use Rattle.std.specs.Prelude.{◌≡◌};
+ghost use Rattle.std.specs.Prelude.{◌≡◌, true};
 
-use crate::action::{EventAction, EventPlace};
-use crate::epochs::{CLOSED_COUNT, LAST_EPOCH};
+use crate::action::EventAction;
 use crate::stage::EventStage;
+use crate::word::{EventWord, LAST_EPOCH, ONE_WAIT};
+
+/// So many exchanges a notification may lose. Then it begins the last epoch by a step that cannot be lost.
+const MOST_LOST: u32 = 1000;
 
 /// A call on a condition variable between two of its steps: a wait, or a notification.
 ///
@@ -13,31 +16,34 @@ use crate::stage::EventStage;
 pub struct EventCall {
     /// The step whose answer the call awaits.
     pub stage: EventStage,
-    /// Whether the notification is of all waits. A wait does not read it.
+    /// Whether the notification wakes all waits. A wait does not read it.
     pub all: bool,
     /// Whether the deadline of the wait has passed.
     pub late: bool,
-    /// The count that a wait loaded last, or how many waits a notification found.
-    pub loaded: u32,
-    /// The epoch that the call loaded last.
-    pub epoch: u32,
+    /// How many exchanges the notification has lost.
+    pub lost: u32,
+    /// The word that the call found last, as `EventWord` decodes it.
+    pub loaded: u64,
+    /// The epoch in which a wait sleeps, or which begins by a notification.
+    pub epoch: u64,
 }
 
 impl EventCall {
-    ghost use Rattle.lock_events.specs.Events.{waiting, notifying, event_at, event_next, action_of, event_to};
+    ghost use Rattle.lock_events.specs.Events.{waiting, notifying, event_at, event_next, action_of, event_to, wait_at, notify_at, ended_epoch, after_loss, is_notified};
 
     /// Begins a wait, whose caller holds the mutex. Returns the call and its first action.
     pub fn wait() -> (EventCall, EventAction)
         ensures { result ≡ (waiting, action_of waiting) }
     {
         let call = EventCall {
-            stage: EventStage::FindCount,
+            stage: EventStage::Look,
             all: false,
             late: false,
+            lost: 0,
             loaded: 0,
             epoch: 0,
         };
-        (call, EventAction::Load(EventPlace::Count))
+        (call, EventAction::Load)
     }
 
     /// Begins a notification of all waits, or of one. Returns the call and its first action.
@@ -48,100 +54,71 @@ impl EventCall {
             stage: EventStage::FindWaits,
             all,
             late: false,
+            lost: 0,
             loaded: 0,
             epoch: 0,
         };
-        (call, EventAction::Load(EventPlace::Count))
+        (call, EventAction::Load)
     }
 
     /// Takes the answer to the last action, and returns the next action.
-    pub fn next(&mut self, found: u32) -> EventAction
+    pub fn next(&mut self, found: u64) -> EventAction
         ensures call { self.new ≡ event_next found self.old }
         ensures action { result ≡ action_of self.new }
     {
         match self.stage {
-            EventStage::FindCount => self.find_count(found),
             EventStage::CountIn if found == self.loaded => {
-                self.to(EventStage::WatchEpoch, EventAction::Load(EventPlace::Epoch))
+                self.to(EventStage::Unlock, EventAction::Unlock)
             }
-            EventStage::CountIn | EventStage::YieldAway => {
-                self.to(EventStage::FindCount, EventAction::Load(EventPlace::Count))
-            }
-            EventStage::WatchEpoch => self.watch_epoch(found),
-            EventStage::Unlock => self.sleep(),
-            EventStage::Sleep | EventStage::YieldCounted => self.wake_up(found),
-            EventStage::Leave => self.to(
-                EventStage::FindEpoch,
-                EventAction::Load(EventPlace::Epoch),
-            ),
-            EventStage::FindEpoch if found >= LAST_EPOCH => self.to(
-                EventStage::CloseCount,
-                EventAction::Exchange(EventPlace::Count, 0, CLOSED_COUNT),
-            ),
-            EventStage::CloseCount if found == 0 => {
-                self.to(EventStage::RestartEpochs, EventAction::Restart)
-            }
-            EventStage::RestartEpochs => self.to(
-                EventStage::OpenCount,
-                EventAction::Subtract(EventPlace::Count, CLOSED_COUNT),
-            ),
-            EventStage::FindEpoch | EventStage::CloseCount | EventStage::OpenCount => {
-                self.to(EventStage::Lock, EventAction::Lock)
-            }
+            EventStage::Look | EventStage::CountIn => self.register(found),
+            EventStage::Unlock => self.to(EventStage::Sleep, EventAction::Park(self.epoch)),
+            EventStage::UnlockAway => self.to(EventStage::YieldAway, EventAction::Yield),
+            EventStage::Sleep => self.leave(found),
+            EventStage::Leave => self.to(EventStage::Lock, EventAction::Lock),
+            EventStage::YieldAway => self.return_away(found),
             EventStage::Lock | EventStage::Waited => self.end_wait(),
-            EventStage::FindWaits => self.find_waits(found),
-            EventStage::NoteEpoch => self.end_epoch(found),
-            // If another call ended the epoch, that one may wake one thread alone.
-            EventStage::EndEpoch => self.wake(),
-            EventStage::Wake | EventStage::Notified => self.end_notification(),
+            EventStage::EndEpoch if found == self.loaded => self.wake_after_epoch(),
+            EventStage::EndEpoch => self.look_after_loss(found),
+            EventStage::FindWaits => self.notify_found(found),
+            EventStage::EndAllEpochs => self.wake(),
+            EventStage::Wake | EventStage::Notified => self.end_notification(EventStage::Notified),
+            EventStage::Skipped => self.end_notification(EventStage::Skipped),
         }
     }
 
-    fn find_count(&mut self, count: u32) -> EventAction
-        ensures call { self.new ≡ event_at EventStage.FindCount count self.old }
+    fn register(&mut self, found: u64) -> EventAction
+        ensures call { self.new ≡ wait_at found self.old }
         ensures action { result ≡ action_of self.new }
     {
-        if count >= CLOSED_COUNT - 1 {
-            return self.to(EventStage::YieldAway, EventAction::Yield);
+        let word = EventWord::of(found);
+        if !word.takes_in() {
+            return self.to(EventStage::UnlockAway, EventAction::Unlock);
         }
-        self.loaded = count;
+        let counted = word.with_wait();
+        self.loaded = found;
+        self.epoch = counted.epoch;
         self.to(
             EventStage::CountIn,
-            EventAction::Exchange(EventPlace::Count, count, count + 1),
+            EventAction::Exchange(found, counted.word()),
         )
     }
 
-    /// Registers a counted wait, and then releases the mutex.
-    fn watch_epoch(&mut self, epoch: u32) -> EventAction
-        ensures call { self.new ≡ event_at EventStage.WatchEpoch epoch self.old }
-        ensures action { result ≡ action_of self.new }
-    {
-        self.epoch = epoch;
-        self.to(EventStage::Unlock, EventAction::Unlock)
-    }
-
-    fn sleep(&mut self) -> EventAction
-        ensures call { self.new ≡ event_at EventStage.Unlock 0 self.old }
-        ensures action { result ≡ action_of self.new }
-    {
-        let epoch = self.epoch;
-        if epoch < LAST_EPOCH {
-            self.to(EventStage::Sleep, EventAction::Park(epoch))
-        } else {
-            self.to(EventStage::YieldCounted, EventAction::Yield)
-        }
-    }
-
-    /// Ends a sleep, or the yield in its place. An answer other than 0 says that the deadline has passed.
-    fn wake_up(&mut self, answer: u32) -> EventAction
+    /// Ends a sleep. An answer other than 0 says that the deadline has passed.
+    fn leave(&mut self, answer: u64) -> EventAction
         ensures call { self.new ≡ event_at EventStage.Sleep answer self.old }
         ensures action { result ≡ action_of self.new }
     {
         self.late = answer != 0;
-        self.to(
-            EventStage::Leave,
-            EventAction::Subtract(EventPlace::Count, 1),
-        )
+        self.to(EventStage::Leave, EventAction::Subtract(ONE_WAIT))
+    }
+
+    /// Ends the yield of a wait that did not register. The answer is that of a sleep.
+    fn return_away(&mut self, answer: u64) -> EventAction
+        ensures call { self.new ≡ event_at EventStage.YieldAway answer self.old }
+        ensures action { result ≡ action_of self.new }
+    {
+        self.late = answer != 0;
+        self.to(EventStage::Lock, EventAction::Lock)
     }
 
     fn end_wait(&mut self) -> EventAction
@@ -152,37 +129,45 @@ impl EventCall {
         self.to(EventStage::Waited, EventAction::End(is_in_time))
     }
 
-    fn find_waits(&mut self, count: u32) -> EventAction
-        ensures call { self.new ≡ event_at EventStage.FindWaits count self.old }
+    fn notify_found(&mut self, found: u64) -> EventAction
+        ensures call { self.new ≡ notify_at found self.old }
         ensures action { result ≡ action_of self.new }
     {
-        self.loaded = count % CLOSED_COUNT;
-        if count == 0 {
-            return self.end_notification();
+        let word = EventWord::of(found);
+        self.loaded = found;
+        if word.has_none(self.all) {
+            return self.end_notification(EventStage::Skipped);
         }
-        self.to(EventStage::NoteEpoch, EventAction::Load(EventPlace::Epoch))
-    }
-
-    fn end_epoch(&mut self, epoch: u32) -> EventAction
-        ensures call { self.new ≡ event_at EventStage.NoteEpoch epoch self.old }
-        ensures action { result ≡ action_of self.new }
-    {
-        self.epoch = epoch;
-        if epoch >= LAST_EPOCH {
+        if word.epoch >= LAST_EPOCH {
+            self.epoch = word.epoch;
             return self.wake();
         }
-        self.to(
-            EventStage::EndEpoch,
-            EventAction::Exchange(EventPlace::Epoch, epoch, epoch + 1),
-        )
+        self.epoch = word.epoch + 1;
+        let ended = word.in_next_epoch(self.all).word();
+        self.to(EventStage::EndEpoch, EventAction::Exchange(found, ended))
     }
 
-    fn to(&mut self, stage: EventStage, action: EventAction) -> EventAction
-        ensures call { self.new ≡ event_to stage self.old }
-        ensures action { result ≡ action }
+    /// Looks at the word that a lost exchange found. After too many, it begins the last epoch.
+    fn look_after_loss(&mut self, found: u64) -> EventAction
+        ensures call { self.new ≡ after_loss found self.old }
+        ensures action { result ≡ action_of self.new }
     {
-        self.stage = stage;
-        action
+        if self.lost < MOST_LOST {
+            self.lost += 1;
+            return self.notify_found(found);
+        }
+        self.all = true;
+        self.epoch = LAST_EPOCH;
+        self.to(EventStage::EndAllEpochs, EventAction::Or(LAST_EPOCH))
+    }
+
+    /// Wakes after the exchange that ended the epoch. In the last epoch all are woken, and leave.
+    fn wake_after_epoch(&mut self) -> EventAction
+        ensures call { self.new ≡ ended_epoch self.old }
+        ensures action { result ≡ action_of self.new }
+    {
+        self.all = self.all || self.epoch == LAST_EPOCH;
+        self.wake()
     }
 
     fn wake(&mut self) -> EventAction
@@ -197,11 +182,20 @@ impl EventCall {
         self.to(EventStage::Wake, action)
     }
 
-    fn end_notification(&mut self) -> EventAction
-        ensures call { self.new ≡ event_to EventStage.Notified self.old }
+    fn end_notification(&mut self, stage: EventStage) -> EventAction
+        requires { is_notified stage ≡ true }
+        ensures call { self.new ≡ event_to stage self.old }
         ensures action { result ≡ action_of self.new }
     {
-        let found_some = self.loaded != 0;
-        self.to(EventStage::Notified, EventAction::End(found_some))
+        let found_some = EventWord::of(self.loaded).count != 0;
+        self.to(stage, EventAction::End(found_some))
+    }
+
+    fn to(&mut self, stage: EventStage, action: EventAction) -> EventAction
+        ensures call { self.new ≡ event_to stage self.old }
+        ensures action { result ≡ action }
+    {
+        self.stage = stage;
+        action
     }
 }

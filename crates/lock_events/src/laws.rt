@@ -4,9 +4,10 @@ ghost use Rattle.lock_events.specs.Mutexes.{WaitsHandOverTheMutex};
 
 /// Takes a new condition variable and any acts of any number of calls, in any order, one atomic step at a time.
 ///
-/// A wait registers before it releases its mutex. A notification that begins later has yet to end the epoch of the wait, or
-/// has ended it before its wake-up. So while the wait sleeps in the present epoch, no such notification has ended. Each number
-/// fits a word of 32 bits.
+/// A wait registers before it releases its mutex, or it does not sleep. A notification that begins later has yet to end the
+/// epoch of the wait, or the epoch has ended before the notification wakes or ends. So while the wait sleeps in the present
+/// epoch, no such notification has ended. A notification of one makes no wake-up only if each counted wait is claimed, and
+/// claims one more wait at most. A wait that ends takes a claim away.
 pub fn every_wait_is_reached()
     ensures { EveryWaitIsReached }
 {}

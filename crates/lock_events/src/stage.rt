@@ -3,42 +3,34 @@
 /// The step whose answer a wait or a notification awaits.
 #[derive(Clone, Copy, PartialEq, Eq, Debug)]
 pub enum EventStage {
-    /// A load of the count of waits.
-    FindCount,
-    /// The exchange that counts the wait.
+    /// A load of the word by a wait.
+    Look,
+    /// The exchange that counts the wait, and registers it.
     CountIn,
-    /// A yield, where the wait could not be counted.
-    YieldAway,
-    /// A load of the epoch, which registers a counted wait.
-    WatchEpoch,
     /// The release of the mutex.
     Unlock,
     /// The sleep.
     Sleep,
-    /// A yield in place of the sleep, in the last epoch.
-    YieldCounted,
-    /// The subtraction that ends the count.
+    /// The subtraction that ends the registration.
     Leave,
-    /// A load of the epoch, to begin the epochs anew.
-    FindEpoch,
-    /// The exchange that closes the count.
-    CloseCount,
-    /// The store that begins the epochs anew.
-    RestartEpochs,
-    /// The subtraction that opens the count.
-    OpenCount,
+    /// The release of the mutex by a wait that could not register.
+    UnlockAway,
+    /// A yield in place of its sleep.
+    YieldAway,
     /// The acquisition of the mutex.
     Lock,
     /// No step: the wait has ended.
     Waited,
-    /// A load of the count by a notification.
+    /// A load of the word by a notification.
     FindWaits,
-    /// A load of the epoch, to end it.
-    NoteEpoch,
-    /// The exchange that ends the epoch.
+    /// The exchange that ends the epoch, and claims.
     EndEpoch,
+    /// The step that begins the last epoch, after too many lost exchanges.
+    EndAllEpochs,
     /// The wake-up of those that slept in it.
     Wake,
-    /// No step: the notification has ended.
+    /// No step: the notification made its wake-up, and has ended.
     Notified,
+    /// No step: the notification found no wait, or claimed ones alone, and has ended.
+    Skipped,
 }

@@ -1,5 +1,5 @@
 -- What the next action tells of a call.
-use Rattle.std.proofs.Common.{◌≡◌, ◌^◌, Bool, true, false, ◌||◌, nat_lt, if◌then◌else◌, IsTrue, refl, sym, ap, subst, ◌∙◌}
+use Rattle.std.proofs.Common.{◌≡◌, ◌^◌, Bool, true, false, nat_lt, if◌then◌else◌, IsTrue, refl, sym, ap, subst, ◌∙◌}
 use Rattle.std.proofs.lemmas.Bool.{true≢false}
 use Rattle.lock_modes.specs.Holds.{hold_has}
 use Rattle.lock_word.specs.declared.down.Down.{Down}
@@ -12,8 +12,7 @@ use Rattle.lock_one.specs.declared.stage.Stage.TheVariants as stage
 use Rattle.lock_one.specs.declared.park.ParkView.{ParkView}
 use Rattle.lock_one.specs.declared.park.Debt.{Debt}
 use Rattle.lock_one.specs.declared.park.Debt.TheVariants as debt
-use Rattle.lock_one.specs.Rule.{is_upgrade}
-use Rattle.lock_one.specs.Machine.{sleep_of}
+use Rattle.lock_one.specs.Machine.{class_of, is_brief, sleep_of}
 use Rattle.lock_one.specs.Steps.{IsAt, IsWake, is_step}
 
 -- a step on the word
@@ -24,9 +23,9 @@ on_word (action.Subtract d) = true
 on_word other = false
 
 quiet : (call : Call) → on_word (sleep_of call) ≡ false
-quiet call = by (nat_lt call.readers (2 ^ 28))
+quiet call = by (nat_lt call.readers (2 ^ 27))
   where
-    by : (b : Bool) → on_word (if b then action.Park call.loaded (call.announced || is_upgrade call.want) else action.Yield) ≡ false
+    by : (b : Bool) → on_word (if b then action.Park call.loaded (class_of call.announced call.want) (is_brief call) else action.Yield) ≡ false
     by true = refl
     by false = refl
 
@@ -48,7 +47,9 @@ steps_on stage.Wake call v a is h = by v.debt is.1
     by debt.One e = absurd (true≢false (sym h ∙ ap on_word e))
     by debt.All e = absurd (true≢false (sym h ∙ ap on_word e))
     by debt.Next e = absurd (true≢false (sym h ∙ ap on_word e))
+    by debt.Turn e = absurd (true≢false (sym h ∙ ap on_word e))
 steps_on stage.WakeRefused call v a is h = absurd (true≢false (sym h ∙ ap on_word is.2))
+steps_on stage.WakeAcquired call v a is h = absurd (true≢false (sym h ∙ ap on_word is.2))
 steps_on stage.Acquired call v a is h = absurd (true≢false (sym h ∙ ap on_word is.1))
 steps_on stage.Refused call v a is h = absurd (true≢false (sym h ∙ ap on_word is.1))
 steps_on stage.Ended call v a is h = absurd (true≢false (sym h ∙ ap on_word is.1))
@@ -60,7 +61,7 @@ subtracts_own stage.Try call v d is = let e = is.2 in cc
 subtracts_own stage.Pause call v d is = absurd is.1
 subtracts_own stage.Mark call v d is = let e = is.4 in cc
 subtracts_own stage.Sleep call v d is = absurd (true≢false (ap on_word is.5 ∙ quiet call))
-subtracts_own stage.Withdraw call v d is = let e = is.2 in cc
+subtracts_own stage.Withdraw call v d is = let e = is.4 in cc
 subtracts_own stage.Leave call v d is = let e = is.4 in cc
 subtracts_own stage.LookToRemove call v d is = let e = is.2 in cc
 subtracts_own stage.Subtract call v d is =
@@ -78,7 +79,9 @@ subtracts_own stage.Wake call v d is = by v.debt is.1
     by debt.One e = cc
     by debt.All e = cc
     by debt.Next e = cc
+    by debt.Turn e = cc
 subtracts_own stage.WakeRefused call v d is = let e = is.2 in cc
+subtracts_own stage.WakeAcquired call v d is = let e = is.2 in cc
 subtracts_own stage.Acquired call v d is = let e = is.1 in cc
 subtracts_own stage.Refused call v d is = let e = is.1 in cc
 subtracts_own stage.Ended call v d is = let e = is.1 in cc

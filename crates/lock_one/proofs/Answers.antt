@@ -1,5 +1,5 @@
 -- What the answer of a call means.
-use Rattle.std.proofs.Common.{◌≡◌, ℕ, ◌-◌, ◌^◌, ◌<◌, Bool, true, false, not, ◌&&◌, ◌||◌, ◌==◌, nat_lt, if◌then◌else◌, ◌⊎◌, inl, inr, refl, sym, ap, ◌∙◌, arith, lt-ltb, eq-eqb}
+use Rattle.std.proofs.Common.{◌≡◌, ℕ, ◌-◌, ◌%◌, ◌^◌, ◌<◌, Bool, true, false, not, ◌&&◌, ◌||◌, ◌==◌, nat_lt, if◌then◌else◌, ◌⊎◌, inl, inr, refl, sym, ap, ◌∙◌, arith, lt-ltb, eq-eqb}
 use Rattle.std.proofs.lemmas.Bool.{false≢true, true≢false}
 use Rattle.lock_modes.specs.declared.hold.Hold.{Hold}
 use Rattle.lock_modes.specs.Holds.{hold_after}
@@ -15,8 +15,8 @@ use Rattle.lock_one.specs.declared.stage.Stage.TheVariants as stage
 use Rattle.lock_one.specs.declared.park.ParkView.{ParkView}
 use Rattle.lock_one.specs.declared.park.Debt.{Debt}
 use Rattle.lock_one.specs.declared.park.Debt.TheVariants as debt
-use Rattle.lock_one.specs.Rule.{is_upgrade}
-use Rattle.lock_one.specs.Machine.{core_of, has_sleepers, sleepers, with_sleepers, Progress, acquired, after_try, decide, wait, goes_to, acquiring, begun, removes_reader, alone, frees_word, release_on, subtract, taking, wakes, next_at, next_of}
+use Rattle.lock_one.specs.Rule.{is_shared, passes_turn}
+use Rattle.lock_one.specs.Machine.{core_of, turn, has_turn, has_sleepers, sleepers, with_turn, with_sleepers, admits_word, class_of, is_brief, takes_turn, won, under_bar, Progress, acquired, after_try, decide, wait, goes_to, acquiring, begun, removes_reader, alone, frees_word, release_on, subtract, taking, wakes, next_at, next_of}
 use Rattle.lock_one.specs.Steps.{IsAt, IsWake, hold_at}
 use Rattle.lock_one.specs.Answers.{AnswersMatchHolds, FirstSteps}
 
@@ -27,13 +27,13 @@ ends_not stage.Look call v b is = let e = is.1 in cc
 ends_not stage.Try call v b is = let e = is.2 in cc
 ends_not stage.Pause call v b is = absurd is.1
 ends_not stage.Mark call v b is = let e = is.4 in cc
-ends_not stage.Sleep call v b is = by (nat_lt call.readers (2 ^ 28)) is.5
+ends_not stage.Sleep call v b is = by (nat_lt call.readers (2 ^ 27)) is.5
   where
-    by : (c : Bool) → action.End b ≡ (if c then action.Park call.loaded (call.announced || is_upgrade call.want) else action.Yield)
+    by : (c : Bool) → action.End b ≡ (if c then action.Park call.loaded (class_of call.announced call.want) (is_brief call) else action.Yield)
         → ((stage.Sleep ≡ stage.Acquired) × (b ≡ true)) ⊎ (((stage.Sleep ≡ stage.Refused) × (b ≡ false)) ⊎ ((stage.Sleep ≡ stage.Ended) × (b ≡ true)))
     by true e = cc
     by false e = cc
-ends_not stage.Withdraw call v b is = let e = is.2 in cc
+ends_not stage.Withdraw call v b is = let e = is.4 in cc
 ends_not stage.Leave call v b is = let e = is.4 in cc
 ends_not stage.LookToRemove call v b is = let e = is.2 in cc
 ends_not stage.Subtract call v b is = let e = is.2 in cc
@@ -46,7 +46,9 @@ ends_not stage.Wake call v b is = by v.debt is.1
     by debt.One e = cc
     by debt.All e = cc
     by debt.Next e = cc
+    by debt.Turn e = cc
 ends_not stage.WakeRefused call v b is = let e = is.2 in cc
+ends_not stage.WakeAcquired call v b is = let e = is.2 in cc
 ends_not stage.Acquired call v b is = let e = is.1 in inl (refl, cc)
 ends_not stage.Refused call v b is = let e = is.1 in inr (inl (refl, cc))
 ends_not stage.Ended call v b is = let e = is.1 in inr (inr (refl, cc))
@@ -79,46 +81,61 @@ done_holds call v before is held =
     ]
 
 -- a decision that refuses was made of a word that refuses
-decided : (call : Call) (found : ℕ) (b : Bool) → word_admits call.announced call.readers (core_of found) call.want ≡ b
+decided : (call : Call) (found : ℕ) (b : Bool) → admits_word call.announced call.readers found call.want ≡ b
     → (if b then goes_to (record call { loaded = found; left = after_try call found }) stage.Try (action.Exchange found (after_try call found)) else wait (record call { loaded = found })).1 ≡ action.End false
     → b ≡ false
 decided call found true e h = cc
 decided call found false e h = refl
 
 refuses : (call : Call) (found : ℕ) → (call.stage ≡ stage.Look) ⊎ (call.stage ≡ stage.Try) → (next_of found call).1 ≡ action.End false
-    → word_admits call.announced call.readers (core_of found) call.want ≡ false
+    → admits_word call.announced call.readers found call.want ≡ false
 refuses call found (inl look) h =
-    decided call found (word_admits call.announced call.readers (core_of found) call.want) refl (ap (λ st. (next_at st found call).1) (sym look) ∙ h)
+    decided call found (admits_word call.announced call.readers found call.want) refl (ap (λ st. (next_at st found call).1) (sym look) ∙ h)
 refuses call found (inr tries) h = by (found == call.loaded) (ap (λ st. (next_at st found call).1) (sym tries) ∙ h)
   where
-    by : (b : Bool) → (if b then acquired call else decide found call).1 ≡ action.End false → word_admits call.announced call.readers (core_of found) call.want ≡ false
-    by true e = cc
-    by false e = decided call found (word_admits call.announced call.readers (core_of found) call.want) refl e
+    by : (b : Bool) → (if b then won call else decide found call).1 ≡ action.End false → admits_word call.announced call.readers found call.want ≡ false
+    by true e = absurd (never (takes_turn call call.loaded && has_sleepers call.loaded) e)
+      where
+        never : (b : Bool) → (if b then goes_to call stage.WakeAcquired action.WakeAll else acquired call).1 ≡ action.End false → ⊥
+        never true e = cc
+        never false e = cc
+    by false e = decided call found (admits_word call.announced call.readers found call.want) refl e
 
 pub answers_match_holds : AnswersMatchHolds
 answers_match_holds = record { refused_holds_as_before = refused_holds; done_has_changed = done_holds; word_refuses = refuses }
 
-first_acquires : (readers word : ℕ) (wish : ExWant) (blocks announces : Bool) → word < sleepers → word_admits false readers word wish ≡ true
-    → (next_of word (acquiring readers wish blocks announces).0).1 ≡ action.Exchange word (word_after word wish)
-first_acquires readers word wish blocks announces low admits =
-    let bare : core_of word ≡ word = omega arith in
-    let unset : has_sleepers word ≡ false = ap not (lt-ltb word (2 ^ 35) low) in
+-- a word without T and S
+bare_word : (word : ℕ) → word < turn → (core_of word ≡ word) × (has_turn word ≡ false) × (has_sleepers word ≡ false)
+bare_word word low =
+    (omega arith, ap not (lt-ltb (word % 2 ^ 36) (2 ^ 35) (omega arith)), ap not (lt-ltb word (2 ^ 36) (omega arith)))
+
+-- a call that has just begun, on such a word that admits it
+first_try : (readers word : ℕ) (wish : ExWant) (blocks announces : Bool) → word < turn → word_admits false readers word wish ≡ true
+    → (admits_word false readers word wish ≡ true)
+    × (after_try (begun readers stage.Look wish down.Shared blocks announces) word ≡ word_after word wish)
+first_try readers word wish blocks announces low admits =
+    let bare = bare_word word low in
     let call = begun readers stage.Look wish down.Shared blocks announces in
-    by call (word_admits false readers (core_of word) wish) (ap (λ n. word_admits false readers n wish) bare ∙ admits) bare unset
+    let none : (has_sleepers word || ((readers == 1) && false)) ≡ false
+    = ap (λ s. s || ((readers == 1) && false)) bare.2 ∙ and_no (readers == 1) in (
+      ap (λ n. word_admits false readers n wish && (not (has_turn word) || passes_turn false wish)) bare.0
+          ∙ (ap (λ b. b && (not (has_turn word) || passes_turn false wish)) admits ∙ ap (λ t. not t || passes_turn false wish) bare.1),
+      ap (λ t. if t && is_shared wish then word_after (core_of word) wish else with_sleepers (with_turn (word_after (core_of word) wish) t) (has_sleepers word || ((readers == 1) && false))) bare.1
+          ∙ (ap (λ s. with_sleepers (word_after (core_of word) wish) s) none ∙ ap (λ n. word_after n wish) bare.0),
+    )
   where
     and_no : (a : Bool) → (a && false) ≡ false
     and_no true = refl
     and_no false = refl
 
-    by : (call : Call) (b : Bool) → b ≡ true → core_of word ≡ word → has_sleepers word ≡ false
-        → (if b then goes_to (record (begun readers stage.Look wish down.Shared blocks announces) { loaded = word; left = after_try (begun readers stage.Look wish down.Shared blocks announces) word }) stage.Try
-        (action.Exchange word (after_try (begun readers stage.Look wish down.Shared blocks announces) word)) else wait (record (begun readers stage.Look wish down.Shared blocks announces) { loaded = word })).1
-        ≡ action.Exchange word (word_after word wish)
-    by call true e bare unset =
-        ap (λ n. action.Exchange word n)
-        (ap (λ s. with_sleepers (word_after (core_of word) wish) (s || ((readers == 1) && false))) unset
-        ∙ (ap (λ s. with_sleepers (word_after (core_of word) wish) s) (and_no (readers == 1)) ∙ ap (λ n. word_after n wish) bare))
-    by call false e bare unset = absurd (false≢true e)
+first_acquires : (readers word : ℕ) (wish : ExWant) (blocks announces : Bool) → word < turn → word_admits false readers word wish ≡ true
+    → (next_of word (acquiring readers wish blocks announces).0).1 ≡ action.Exchange word (word_after word wish)
+first_acquires readers word wish blocks announces low admits =
+    let first = first_try readers word wish blocks announces low admits in
+    let call = begun readers stage.Look wish down.Shared blocks announces in
+    ap (λ (b : Bool). (if b then goes_to (record call { loaded = word; left = after_try call word }) stage.Try (action.Exchange word (after_try call word))
+    else wait (record call { loaded = word })).1) first.0
+    ∙ ap (λ n. action.Exchange word n) first.1
 
 first_releases : (readers : ℕ) (d : Down) → removes_reader readers d ≡ false → (taking readers d).1 ≡ action.Exchange (alone d) (alone d - amount d)
 first_releases readers d never = ap (λ (b : Bool). (if b then goes_to (begun readers stage.LookToRemove want.Shared d false false) stage.LookToRemove action.Load
@@ -134,21 +151,16 @@ first_releases readers d never = ap (λ (b : Bool). (if b then goes_to (begun re
     by down.Withdraw = refl
 
 -- the call whose loaded word admits it, and whose exchange found that word
-first_acquired : (readers word : ℕ) (wish : ExWant) (blocks announces : Bool) → word < sleepers → word_admits false readers word wish ≡ true
+first_acquired : (readers word : ℕ) (wish : ExWant) (blocks announces : Bool) → word < turn → word_admits false readers word wish ≡ true
     → (next_of word (next_of word (acquiring readers wish blocks announces).0).0).1 ≡ action.End true
 first_acquired readers word wish blocks announces low admits =
-    let bare : core_of word ≡ word = omega arith in
-    by (word_admits false readers (core_of word) wish) (ap (λ n. word_admits false readers n wish) bare ∙ admits)
-  where
-    fresh : Call
-    fresh = begun readers stage.Look wish down.Shared blocks announces
-
-    by : (b : Bool) → b ≡ true
-        → (next_of word (if b then goes_to (record fresh { loaded = word; left = after_try fresh word }) stage.Try (action.Exchange word (after_try fresh word)) else wait (record fresh { loaded = word })).0).1 ≡ action.End true
-    by true e =
-        let call = (goes_to (record fresh { loaded = word; left = after_try fresh word }) stage.Try (action.Exchange word (after_try fresh word))).0 in
-        ap (λ (c : Bool). (if c then acquired call else decide word call).1) (eq-eqb word word refl)
-    by false e = absurd (false≢true e)
+    let first = first_try readers word wish blocks announces low admits in
+    let fresh = begun readers stage.Look wish down.Shared blocks announces in
+    ap (λ (b : Bool). (next_of word (if b then goes_to (record fresh { loaded = word; left = after_try fresh word }) stage.Try (action.Exchange word (after_try fresh word))
+    else wait (record fresh { loaded = word })).0).1) first.0
+    ∙ (let call = (goes_to (record fresh { loaded = word; left = after_try fresh word }) stage.Try (action.Exchange word (after_try fresh word))).0 in
+    ap (λ (c : Bool). (if c then won call else decide word call).1) (eq-eqb word word refl)
+    ∙ ap (λ (t : Bool). (if (t && is_shared wish) && has_sleepers word then goes_to call stage.WakeAcquired action.WakeAll else acquired call).1) (bare_word word low).1)
 
 abbrev begun_taking : ℕ → Down → Bool → Progress
 begun_taking readers d b =
@@ -171,7 +183,7 @@ first_looks : (readers : ℕ) (d : Down) → removes_reader readers d ≡ true �
 first_looks readers d is = ap (λ (b : Bool). (begun_taking readers d b).1) is
 
 no_sleepers : (word : ℕ) → word < sleepers → has_sleepers word ≡ false
-no_sleepers word low = ap not (lt-ltb word (2 ^ 35) low)
+no_sleepers word low = ap not (lt-ltb word (2 ^ 36) low)
 
 first_removes : (readers word : ℕ) (d : Down) → removes_reader readers d ≡ true → word < sleepers
     → next_of word (taking readers d).0 ≡ subtract (begun readers stage.LookToRemove want.Shared d false false)
@@ -189,7 +201,8 @@ first_removed readers word found d is low quiet =
     owed b =
         if not b then (false, debt.Nothing)
         else if not (frees_word readers (core_of found) (core_of found - amount d)) then (true, debt.Nothing)
-        else if not (nat_lt (core_of found - amount d) (2 ^ 34)) then (true, debt.Next)
+        else if not (nat_lt (core_of found - amount d) (2 ^ 34)) then (true, under_bar readers found)
+        else if has_turn found then (true, debt.Turn)
         else (false, if readers == 1 then debt.One else debt.All)
 
     ends : (call : Call) (b : Bool) → b ≡ false → (wakes (owed b).1 call).1 ≡ action.End true

@@ -1,10 +1,10 @@
 -- After the exchange of a release, a call makes at most a wake-up.
-use Rattle.std.proofs.Common.{◌≡◌, ℕ, Bool, true, false, ◌==◌, if◌then◌else◌, List, [], ◌∷◌, refl, sym, ap, subst, ◌∙◌, eq-eqb}
+use Rattle.std.proofs.Common.{◌≡◌, ℕ, Bool, true, false, not, ◌&&◌, ◌==◌, if◌then◌else◌, List, [], ◌∷◌, refl, sym, ap, subst, ◌∙◌, eq-eqb}
 use Rattle.lock_one.specs.declared.call.Call.{Call}
 use Rattle.lock_one.specs.declared.stage.Stage.TheVariants as stage
 use Rattle.lock_one.specs.declared.park.Debt.{Debt}
 use Rattle.lock_one.specs.declared.park.Debt.TheVariants as debt
-use Rattle.lock_one.specs.Machine.{Progress, next_at, next_of, decide, acquired, refused, ended, wakes, release_again, release_of, withdrawn, has_sleepers}
+use Rattle.lock_one.specs.Machine.{Progress, next_at, next_of, decide, acquired, won, takes_turn, refused, ended, wakes, release_again, release_of, withdrawn, has_sleepers, wakes_one}
 use Rattle.lock_one.specs.Steps.{actions_from, touches_none, LastAccess}
 
 quiet_end : (b : Bool) (call : Call) (answers : List ℕ) → touches_none (actions_from (ended b call) answers) ≡ true
@@ -27,12 +27,20 @@ quiet_wake debt.All call [] = refl
 quiet_wake debt.All call (a ∷ answers) = quiet_end true call answers
 quiet_wake debt.Next call [] = refl
 quiet_wake debt.Next call (a ∷ answers) = quiet_end true call answers
+quiet_wake debt.Turn call [] = refl
+quiet_wake debt.Turn call (a ∷ answers) = quiet_end true call answers
 
-quiet_withdrawn : (b : Bool) (call : Call) (answers : List ℕ) → has_sleepers call.loaded ≡ b
+quiet_won : (b : Bool) (call : Call) (answers : List ℕ) → (takes_turn call call.loaded && has_sleepers call.loaded) ≡ b
+    → touches_none (actions_from (won call) answers) ≡ true
+quiet_won true call [] e = rw e refl
+quiet_won true call (a ∷ answers) e = rw e (quiet_acquired (record call { stage = stage.WakeAcquired }) answers)
+quiet_won false call answers e = rw e (quiet_acquired call answers)
+
+quiet_withdrawn : (b : Bool) (call : Call) (answers : List ℕ) → (has_sleepers call.loaded && not (wakes_one call)) ≡ b
     → touches_none (actions_from (withdrawn call) answers) ≡ true
 quiet_withdrawn true call [] e = rw e refl
-quiet_withdrawn true call (a ∷ answers) e = rw e (quiet_refusal (record call { announced = false; stage = stage.WakeRefused }) answers)
-quiet_withdrawn false call answers e = rw e (quiet_refusal (record call { announced = false }) answers)
+quiet_withdrawn true call (a ∷ answers) e = rw e (quiet_refusal (record call { announced = false; turned = false; stage = stage.WakeRefused }) answers)
+quiet_withdrawn false call answers e = rw e (quiet_refusal (record call { announced = false; turned = false }) answers)
 
 -- a call whose answer is the word that it loaded
 found : (call : Call) (x y : Progress) → (if call.loaded == call.loaded then x else y) ≡ x
@@ -49,9 +57,9 @@ last_access =
           let next : next_of word call ≡ wakes (release_of call.readers word call.down).1 call = ap (λ s. next_at s word call) at in
           subst (λ p. touches_none (actions_from p answers) ≡ true) (sym next) (quiet_wake (release_of call.readers word call.down).1 call answers);
       acquisition = λ call answers at.
-          let next : next_of call.loaded call ≡ acquired call = ap (λ s. next_at s call.loaded call) at ∙ found call (acquired call) (decide call.loaded call) in
-          subst (λ p. touches_none (actions_from p answers) ≡ true) (sym next) (quiet_acquired call answers);
+          let next : next_of call.loaded call ≡ won call = ap (λ s. next_at s call.loaded call) at ∙ found call (won call) (decide call.loaded call) in
+          subst (λ p. touches_none (actions_from p answers) ≡ true) (sym next) (quiet_won (takes_turn call call.loaded && has_sleepers call.loaded) call answers refl);
       withdrawal = λ call answers at.
           let next : next_of call.loaded call ≡ withdrawn call = ap (λ s. next_at s call.loaded call) at ∙ found call (withdrawn call) (decide call.loaded call) in
-          subst (λ p. touches_none (actions_from p answers) ≡ true) (sym next) (quiet_withdrawn (has_sleepers call.loaded) call answers refl);
+          subst (λ p. touches_none (actions_from p answers) ≡ true) (sym next) (quiet_withdrawn (has_sleepers call.loaded && not (wakes_one call)) call answers refl);
     }

@@ -9,4 +9,8 @@ pub mod RunViews
 pub mod RunActs
 pub mod RunWakes
 pub mod Runs
+pub mod RunTurns
 pub mod Stored
+pub mod RunSteps
+pub mod Bars
+pub mod Turn

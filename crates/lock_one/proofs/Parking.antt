@@ -1,5 +1,5 @@
 -- Each kind of step of one party keeps the rule by which no sleeper is forgotten.
-use Rattle.std.proofs.Common.{◌≡◌, ◌≢◌, ℕ, zero, suc, not, ◌-◌, ◌^◌, ◌<◌, ◌≤◌, Bool, true, false, ◌&&◌, ◌||◌, ◌==◌, if◌then◌else◌, inl, inr, List, [], ◌∷◌, map, slice_get, slice_set, Some, None, IsTrue, refl, sym, ap, subst, ◌∙◌, arith, eqb-true, eq-eqb}
+use Rattle.std.proofs.Common.{◌≡◌, ◌≢◌, ℕ, zero, suc, not, ◌-◌, ◌^◌, ◌%◌, nat_lt, ltb-true, ◌+◌, ◌<◌, ◌≤◌, Bool, true, false, ◌&&◌, ◌||◌, ◌==◌, if◌then◌else◌, inl, inr, List, [], ◌∷◌, map, slice_get, slice_set, Some, None, IsTrue, refl, sym, ap, subst, ◌∙◌, arith, eqb-true, eq-eqb}
 use Rattle.std.proofs.lemmas.Bool.{false≢true, true≢false, and_parts, and_from, or_parts, or_cases, or_left, cases_eq, cases_Bool, false_from_ne_true}
 use Rattle.std.proofs.lemmas.List.{map-set}
 use Rattle.std.proofs.lemmas.Option.{same_Some, slice_get-map}
@@ -25,19 +25,19 @@ use Rattle.lock_one.specs.declared.park.ParkView.{ParkView}
 use Rattle.lock_one.specs.declared.park.Park.{Park}
 use Rattle.lock_one.specs.declared.park.Park.TheVariants.{Awake, Asleep, Woken}
 use Rattle.lock_one.specs.declared.park.Debt.{Debt}
-use Rattle.lock_one.specs.declared.park.Debt.TheVariants.{Nothing, One, All, Next}
-use Rattle.lock_one.specs.Rule.{holds_of, admits_to, is_upgrade, is_next, is_woken, is_asleep, reaches, has_duty, serves, SomeoneServes, IsServed, NoneIsForgotten, IsEntitled, KeepsParking, with_park, with_debt, after_win, after_take, may_want, frees, IsPaid, is_unset, is_unneeded, is_barred, is_all, is_one, wake_park_all, wake_park_next, wake_all, wake_next, EachStepKeeps, new_party, StepsKeepParking}
+use Rattle.lock_one.specs.declared.park.Debt.TheVariants.{Nothing, One, All, Next, Turn}
+use Rattle.lock_one.specs.Rule.{holds_of, admits_to, is_shared, is_upgrade, passes_turn, IsRefused, is_next, is_in_turn, is_woken, is_asleep, reaches, is_free, has_duty, serves, SomeoneServes, IsServed, NoneIsForgotten, IsEntitled, KeepsParking, with_park, with_debt, after_win, after_take, frees, IsPaid, is_unset, is_unneeded, is_barred, is_shared_bar, is_turned, is_all, is_one, wake_park_all, wake_park_of, wake_all, wake_of, EachStepKeeps, new_party, StepsKeepParking}
 
 -- lists of views of which one is changed
 
-holds_of-set : (views : List ParkView) (k : ℕ) (you : ParkView) → holds_of (slice_set views k you) ≡ slice_set (holds_of views) k you.held
+pub holds_of-set : (views : List ParkView) (k : ℕ) (you : ParkView) → holds_of (slice_set views k you) ≡ slice_set (holds_of views) k you.held
 holds_of-set views k you = map-set (λ (v : ParkView). v.held) views k you
 
 hold_at : (views : List ParkView) (k : ℕ) (me : ParkView) → slice_get views k ≡ Some me → slice_get (holds_of views) k ≡ Some me.held
 hold_at views k me h = rw (slice_get-map (λ (v : ParkView). v.held) views k, h)
 
 -- the party keeps what it holds
-same_holds : (views : List ParkView) (k : ℕ) (me you : ParkView) → slice_get views k ≡ Some me → you.held ≡ me.held
+pub same_holds : (views : List ParkView) (k : ℕ) (me you : ParkView) → slice_get views k ≡ Some me → you.held ≡ me.held
     → holds_of (slice_set views k you) ≡ holds_of views
 same_holds views k me you at held =
     holds_of-set views k you
@@ -125,22 +125,22 @@ here limits views k me you v want at does = record { number = k; server = you; i
 
 -- none is forgotten after a step of one party, where each other sleeper is served after it, whether it was refused or served by
 -- the one before it
-forgets_none : (limits : ParkLimits) (core new : ℕ) (s t : Bool) (views : List ParkView) (k : ℕ) (me you : ParkView)
-    → slice_get views k ≡ Some me → NoneIsForgotten limits core s views
-    → ((j : ℕ) (v : ParkView) (want : ExWant) → slice_get views j ≡ Some v → v.park ≡ Asleep want → s ≡ true → admits_to limits core v want ≡ false
-    → IsServed limits new t (slice_set views k you) v want)
+forgets_none : (limits : ParkLimits) (core new : ℕ) (t later s now : Bool) (views : List ParkView) (k : ℕ) (me you : ParkView)
+    → slice_get views k ≡ Some me → NoneIsForgotten limits core t s views
+    → ((j : ℕ) (v : ParkView) (want : ExWant) → j ≢ k → slice_get views j ≡ Some v → v.park ≡ Asleep want → s ≡ true → IsRefused limits core t v want
+    → IsServed limits new later now (slice_set views k you) v want)
     → ((j : ℕ) (v : ParkView) (want : ExWant) → slice_get views j ≡ Some v → v.park ≡ Asleep want → IsTrue (serves limits me v want)
-    → IsServed limits new t (slice_set views k you) v want)
-    → ((want : ExWant) → you.park ≡ Asleep want → IsServed limits new t (slice_set views k you) you want)
-    → NoneIsForgotten limits new t (slice_set views k you)
-forgets_none limits core new s t views k me you at none refused served own j v want is asleep =
+    → IsServed limits new later now (slice_set views k you) v want)
+    → ((want : ExWant) → you.park ≡ Asleep want → IsServed limits new later now (slice_set views k you) you want)
+    → NoneIsForgotten limits new later now (slice_set views k you)
+forgets_none limits core new t later s now views k me you at none refused served own j v want is asleep =
     elim (changed_or_not views k j you v is) [
       | inl e ↦
-          subst (λ (w : ParkView). IsServed limits new t (slice_set views k you) w want) (sym e.1)
+          subst (λ (w : ParkView). IsServed limits new later now (slice_set views k you) w want) (sym e.1)
           (own want (subst (λ (w : ParkView). w.park ≡ Asleep want) e.1 asleep))
       | inr e ↦
           elim (none j v want e.1 asleep) [
-            | inl before ↦ refused j v want e.1 asleep before.0 before.1
+            | inl before ↦ refused j v want e.0 e.1 asleep before.0 before.1
             | inr someone ↦
                 elim (cases_eq someone.number k) [
                   | inl same ↦
@@ -152,42 +152,88 @@ forgets_none limits core new s t views k me you at none refused served own j v w
           ]
     ]
 
--- one that owes nothing and has no duty serves nobody
-serves_none : (limits : ParkLimits) (me v : ParkView) (want : ExWant) → me.debt ≡ Nothing → has_duty limits me ≡ false
-    → IsTrue (serves limits me v want) → ⊥
-serves_none limits me v want debt idle does =
-    let none : reaches limits me.debt v want ≡ false = ap (λ d. reaches limits d v want) debt in
-    true≢false (sym does ∙ or_no (reaches limits me.debt v want) (has_duty limits me) none idle)
+-- a mutex has no T, so its core refuses
+core_refuses : (limits : ParkLimits) (core : ℕ) (t : Bool) (v : ParkView) (want : ExWant) → t ≡ false → IsRefused limits core t v want
+    → admits_to limits core v want ≡ false
+core_refuses limits core t v want clear (inl core_does) = core_does
+core_refuses limits core t v want clear (inr turn) = absurd (false≢true (sym clear ∙ turn.0))
+
+-- T refuses those that no release under it reaches
+turn_refuses : (v : ParkView) (wish : ExWant) → is_in_turn v wish ≡ false → passes_turn v.held.announced wish ≡ false
+turn_refuses v wish out =
+    let two = or_parts (is_next v wish) (is_shared wish) out in
+    let one = or_parts v.held.announced (is_upgrade wish) two.0 in
+    by v.held.announced wish one.0 one.1 two.1
+  where
+    by : (a : Bool) (w : ExWant) → a ≡ false → is_upgrade w ≡ false → is_shared w ≡ false → passes_turn a w ≡ false
+    by a want.Shared bare up shared = absurd (true≢false shared)
+    by a want.Exclusive bare up shared = bare
+    by a want.Upgradable bare up shared = refl
+    by a want.Upgrade bare up shared = absurd (true≢false up)
+    by a want.Announce bare up shared = refl
+
+not_true : (a : Bool) → IsTrue (not a) → a ≡ false
+not_true true h = absurd (false≢true h)
+not_true false h = refl
+
+-- a duty serves those without a bar
+pub duty_serves : (limits : ParkLimits) (me v : ParkView) → IsTrue (has_duty limits me && not v.held.announced)
+    → IsTrue (has_duty limits me) × (v.held.announced ≡ false)
+duty_serves limits me v does =
+    let two = and_parts (has_duty limits me) (not v.held.announced) does in
+    (two.0, not_true v.held.announced two.1)
 
 -- one that owes nothing serves by its duty
 serves_by_duty : (limits : ParkLimits) (me v : ParkView) (want : ExWant) → me.debt ≡ Nothing → IsTrue (serves limits me v want)
-    → IsTrue (has_duty limits me)
+    → IsTrue (has_duty limits me) × (v.held.announced ≡ false)
 serves_by_duty limits me v want debt does =
     let none : reaches limits me.debt v want ≡ false = ap (λ d. reaches limits d v want) debt in
-    elim (or_cases (reaches limits me.debt v want) (has_duty limits me) does) [
+    elim (or_cases (reaches limits me.debt v want) (has_duty limits me && not v.held.announced) does) [
       | inl some ↦ absurd (false≢true (sym none ∙ some))
-      | inr duty ↦ duty
+      | inr duty ↦ duty_serves limits me v duty
     ]
 
 duty_in_mutex : (limits : ParkLimits) (v : ParkView) → IsTrue (has_duty limits v) → IsTrue limits.wakes_one
 duty_in_mutex limits v duty = (and_parts limits.wakes_one (is_woken v.park) duty).0
 
--- a mutex refuses each alike
-pub mutex_refuses : (limits : ParkLimits) (core : ℕ) (v : ParkView) (want : ExWant) → IsTrue limits.wakes_one → core ≢ 0
-    → admits_to limits core v want ≡ false
-mutex_refuses limits core v want one taken =
-    let opened : admits_to limits core v want ≡ (core == 0) = ap (λ b. if b then core == 0 else word_admits v.held.announced limits.readers core want) one in
-    opened ∙ false_from_ne_true (core == 0) (λ e. taken (eqb-true core 0 e))
+mutex_admits : (limits : ParkLimits) (core : ℕ) (v : ParkView) (want : ExWant) → IsTrue limits.wakes_one
+    → admits_to limits core v want ≡ is_free v core
+mutex_admits limits core v want one = ap (λ b. if b then is_free v core else word_admits v.held.announced limits.readers core want) one
 
-mutex_taken : (limits : ParkLimits) (core : ℕ) (v : ParkView) (want : ExWant) → IsTrue limits.wakes_one
+-- a mutex that somebody holds refuses all
+pub held_refuses : (limits : ParkLimits) (core : ℕ) (v : ParkView) (want : ExWant) → IsTrue limits.wakes_one → core % 2 ^ 34 ≢ 0
+    → admits_to limits core v want ≡ false
+held_refuses limits core v want one held = mutex_admits limits core v want one ∙ by v.held.announced
+  where
+    by : (b : Bool) → (if b then core % 2 ^ 34 == 0 else core == 0) ≡ false
+    by true = false_from_ne_true (core % 2 ^ 34 == 0) (λ e. held (eqb-true (core % 2 ^ 34) 0 e))
+    by false = false_from_ne_true (core == 0) (λ e. held (ap (λ n. n % 2 ^ 34) (eqb-true core 0 e)))
+
+-- a mutex whose word is not zero refuses those without a bar
+pub mutex_refuses : (limits : ParkLimits) (core : ℕ) (v : ParkView) (want : ExWant) → IsTrue limits.wakes_one → v.held.announced ≡ false
+    → core ≢ 0 → admits_to limits core v want ≡ false
+mutex_refuses limits core v want one bare taken =
+    mutex_admits limits core v want one
+    ∙ (ap (λ b. if b then core % 2 ^ 34 == 0 else core == 0) bare ∙ false_from_ne_true (core == 0) (λ e. taken (eqb-true core 0 e)))
+
+pub mutex_held : (limits : ParkLimits) (core : ℕ) (v : ParkView) (want : ExWant) → IsTrue limits.wakes_one → v.held.announced ≡ true
+    → admits_to limits core v want ≡ false → core % 2 ^ 34 ≢ 0
+mutex_held limits core v want one bar refused free =
+    false≢true
+    (sym refused
+    ∙ (mutex_admits limits core v want one ∙ (ap (λ b. if b then core % 2 ^ 34 == 0 else core == 0) bar ∙ eq-eqb (core % 2 ^ 34) 0 free)))
+
+pub mutex_taken : (limits : ParkLimits) (core : ℕ) (v : ParkView) (want : ExWant) → IsTrue limits.wakes_one
     → admits_to limits core v want ≡ false → core ≢ 0
-mutex_taken limits core v want one refused free =
-    let opened : admits_to limits core v want ≡ (core == 0) = ap (λ b. if b then core == 0 else word_admits v.held.announced limits.readers core want) one in
-    false≢true (sym refused ∙ (opened ∙ eq-eqb core 0 free))
+mutex_taken limits core v want one refused free = false≢true (sym refused ∙ (mutex_admits limits core v want one ∙ by v.held.announced))
+  where
+    by : (b : Bool) → (if b then core % 2 ^ 34 == 0 else core == 0) ≡ true
+    by true = eq-eqb (core % 2 ^ 34) 0 (ap (λ n. n % 2 ^ 34) free)
+    by false = eq-eqb core 0 free
 
 pub others_admit : (limits : ParkLimits) (core : ℕ) (v : ParkView) (want : ExWant) → limits.wakes_one ≡ false
     → admits_to limits core v want ≡ word_admits v.held.announced limits.readers core want
-others_admit limits core v want many = ap (λ b. if b then core == 0 else word_admits v.held.announced limits.readers core want) many
+others_admit limits core v want many = ap (λ b. if b then is_free v core else word_admits v.held.announced limits.readers core want) many
 
 -- an acquisition leaves no release_on word
 taken_after : (a : Bool) (limit core : ℕ) (want : ExWant) → IsTrue (word_admits a limit core want) → word_after core want ≢ 0
@@ -197,16 +243,18 @@ taken_after a limit core want.Upgradable h e = omega arith
 taken_after a limit core want.Upgrade h e = omega arith
 taken_after a limit core want.Announce h e = omega arith
 
-unbarred_after : (a : Bool) (limit core : ℕ) (want : ExWant) → IsTrue (is_awaited want) → IsTrue (word_admits a limit core want)
-    → core < 2 ^ 34 → word_after core want < 2 ^ 34
-unbarred_after a limit core want w h free = grind arith
-
-awaited_in_mutex : (limits : ParkLimits) (want : ExWant) → IsTrue (may_want limits want) → IsTrue limits.wakes_one → IsTrue (is_awaited want)
-awaited_in_mutex limits want may one =
-    elim (or_cases (is_awaited want) (not limits.wakes_one) may) [
-      | inl a ↦ a
-      | inr n ↦ absurd (false≢true (sym (ap not one) ∙ n))
+-- a word that is held is held after it
+held_after : (a : Bool) (limit core : ℕ) (want : ExWant) → IsTrue (word_admits a limit core want) → core % 2 ^ 34 ≢ 0
+    → word_after core want % 2 ^ 34 ≢ 0
+held_after a limit core want.Shared h held e = let low = ltb-true core (2 ^ 33) (and_parts (nat_lt core (2 ^ 33)) (nat_lt (core % 2 ^ 32) limit) h).0 in omega arith
+held_after a limit core want.Exclusive h held e = omega arith
+held_after a limit core want.Upgradable h held e = let low = ltb-true core (2 ^ 32) (and_parts (nat_lt core (2 ^ 32)) (nat_lt (core % 2 ^ 32) limit) h).0 in omega arith
+held_after a limit core want.Upgrade h held e =
+    elim (or_cases (core == 2 ^ 32 + 1) (core == 2 ^ 34 + 2 ^ 32 + 1) h) [
+      | inl one ↦ (let is = eqb-true core (2 ^ 32 + 1) one in omega arith)
+      | inr one ↦ (let is = eqb-true core (2 ^ 34 + 2 ^ 32 + 1) one in omega arith)
     ]
+held_after a limit core want.Announce h held e = let low = ltb-true core (2 ^ 34) h in omega arith
 
 -- under a bar, only those that are next are admitted
 barred_refuses : (limits : ParkLimits) (core : ℕ) (v : ParkView) (wish : ExWant) → limits.wakes_one ≡ false → IsTrue (is_awaited wish)
@@ -222,10 +270,16 @@ barred_refuses limits core v wish many awaited bar not_next =
     by a not_set want.Upgrade h u = absurd (true≢false u)
     by a not_set want.Announce h u = absurd (false≢true h)
 
+-- a release that frees no mutex leaves it held
+still_held : (limits : ParkLimits) (core new : ℕ) → IsTrue limits.wakes_one → frees limits core new ≡ false → new % 2 ^ 34 ≢ 0
+still_held limits core new one need free =
+    let opened : frees limits core new ≡ (new % 2 ^ 34 == 0) = ap (λ b. if b then new % 2 ^ 34 == 0 else word_unblocks limits.readers core new) one in
+    false≢true (sym need ∙ (opened ∙ eq-eqb (new % 2 ^ 34) 0 free))
+
 -- the steps of a party, whatever all others are
 
-module _ (limits : ParkLimits) (core : ℕ) (s : Bool) (views : List ParkView) (k : ℕ) (me : ParkView)
-    (range : IsLimit limits.readers) (kept : KeepsParking limits core s views) (at : slice_get views k ≡ Some me) where
+module _ (limits : ParkLimits) (core : ℕ) (t s : Bool) (views : List ParkView) (k : ℕ) (me : ParkView)
+    (range : IsLimit limits.readers) (kept : KeepsParking limits core t s views) (at : slice_get views k ≡ Some me) where
   sums : Sums limits.readers core views
   sums = record { coded = kept.coded; legal = kept.legal }
 
@@ -233,15 +287,16 @@ module _ (limits : ParkLimits) (core : ℕ) (s : Bool) (views : List ParkView) (
   rule = rule_of limits.readers core views kept.coded kept.legal
 
   -- a step of the party at k, as far as the rule speaks of all
-  keeps : (new : ℕ) (t : Bool) (you : ParkView) → Sums limits.readers new (slice_set views k you)
-      → (IsTrue limits.wakes_one → new < 2 ^ 34) → ((want : ExWant) → you.park ≡ Asleep want → IsEntitled you want)
-      → NoneIsForgotten limits new t (slice_set views k you) → KeepsParking limits new t (slice_set views k you)
-  keeps new t you total low own none =
+  keeps : (new : ℕ) (later now : Bool) (you : ParkView) → Sums limits.readers new (slice_set views k you)
+      → ((want : ExWant) → you.park ≡ Asleep want → IsEntitled you want)
+      → (IsTrue limits.wakes_one → later ≡ false)
+      → NoneIsForgotten limits new later now (slice_set views k you) → KeepsParking limits new later now (slice_set views k you)
+  keeps new later now you total own no_turn none =
       record {
         coded = total.coded;
         legal = total.legal;
         one_token = kept.one_token;
-        no_bar = low;
+        no_turn = no_turn;
         entitled = λ j v want is asleep.
             elim (changed_or_not views k j you v is) [
               | inl e ↦ subst (λ (w : ParkView). IsEntitled w want) (sym e.1) (own want (subst (λ (w : ParkView). w.park ≡ Asleep want) e.1 asleep))
@@ -252,124 +307,222 @@ module _ (limits : ParkLimits) (core : ℕ) (s : Bool) (views : List ParkView) (
 
   -- a step that leaves the word and what the party holds
   quiet : (you : ParkView) → you.held ≡ me.held → ((want : ExWant) → you.park ≡ Asleep want → IsEntitled you want)
-      → NoneIsForgotten limits core s (slice_set views k you) → KeepsParking limits core s (slice_set views k you)
+      → NoneIsForgotten limits core t s (slice_set views k you) → KeepsParking limits core t s (slice_set views k you)
   quiet you held own none =
-      keeps core s you (sums_same limits.readers core views (slice_set views k you) (same_holds views k me you at held) sums) kept.no_bar own none
+      keeps core t s you (sums_same limits.readers core views (slice_set views k you) (same_holds views k me you at held) sums) own
+      kept.no_turn none
 
-  exchange : (want : ExWant) (t : Bool) → IsTrue (hold_has me.held (step_of_want want))
-      → IsTrue (word_admits me.held.announced limits.readers core want) → IsTrue (may_want limits want)
-      → me.debt ≡ Nothing → (s ≡ true → t ≡ true) → (IsTrue (has_duty limits me) → t ≡ true)
-      → KeepsParking limits (word_after core want) t (slice_set views k (after_win me want))
-  exchange want t has admits may debt stays sets =
+  no_turn_in : IsTrue limits.wakes_one → (v : ParkView) (want : ExWant) → IsRefused limits core t v want → admits_to limits core v want ≡ false
+  no_turn_in one v want refused = core_refuses limits core t v want (kept.no_turn one) refused
+
+  exchange : (want : ExWant) (now : Bool) → IsTrue (hold_has me.held (step_of_want want))
+      → IsTrue (word_admits me.held.announced limits.readers core want)
+      → me.debt ≡ Nothing → (s ≡ true → now ≡ true) → (IsTrue (has_duty limits me) → now ≡ true)
+      → KeepsParking limits (word_after core want) t now (slice_set views k (after_win me want))
+  exchange want now has admits debt stays sets =
       let you = after_win me want in
       let new = word_after core want in
       let won = keeps_exchange limits.readers core (parties_of views) k (party_of me) want range rule (party_at views k me at) has admits in
       let taken : new ≢ 0 = taken_after me.held.announced limits.readers core want admits in
-      keeps new t you
+      keeps new t now you
       (sums_of limits.readers new (slice_set (parties_of views) k (turns.after_win (party_of me) (step_of_want want))) (slice_set views k you)
       (set_holds views k (turns.after_win (party_of me) (step_of_want want)) you refl) won)
-      (λ one. unbarred_after me.held.announced limits.readers core want (awaited_in_mutex limits want may one) admits (kept.no_bar one))
       (λ other asleep. cc)
-      (forgets_none limits core new s t views k me you at kept.none_forgotten
-      (λ j v other is asleep set refused.
+      kept.no_turn
+      (forgets_none limits core new t t s now views k me you at kept.none_forgotten
+      (λ j v other apart is asleep set refused.
       inl (
         stays set,
-        elim (cases_Bool limits.wakes_one) [
-          | inl one ↦ mutex_refuses limits new v other one taken
-          | inr many ↦
-              others_admit limits new v other many
-              ∙ false_from_ne_true (word_admits v.held.announced limits.readers new other) (λ after.
-              let due = kept.entitled j v other is asleep in
-              let before = exchanges_unblock_nobody me.held.announced limits.readers core want v.held other range
-              (shows limits.readers core (parties_of views) j (party_of v) range rule (party_at views j v is)) admits due.0 due.1 after in
-              false≢true (sym refused ∙ (others_admit limits core v other many ∙ before)))
+        elim refused [
+          | inr turn ↦ inr turn
+          | inl core_refused ↦
+              inl (elim (cases_Bool limits.wakes_one) [
+                | inl one ↦
+                    elim (cases_Bool v.held.announced) [
+                      | inl bar ↦
+                          held_refuses limits new v other one
+                          (held_after me.held.announced limits.readers core want admits (mutex_held limits core v other one bar core_refused))
+                      | inr bare ↦ mutex_refuses limits new v other one bare taken
+                    ]
+                | inr many ↦
+                    others_admit limits new v other many
+                    ∙ false_from_ne_true (word_admits v.held.announced limits.readers new other) (λ after.
+                    let due = kept.entitled j v other is asleep in
+                    let before = exchanges_unblock_nobody me.held.announced limits.readers core want v.held other range
+                    (shows limits.readers core (parties_of views) j (party_of v) range rule (party_at views j v is)) admits due.0 due.1 after in
+                    false≢true (sym core_refused ∙ (others_admit limits core v other many ∙ before)))
+              ])
         ],
       ))
       (λ j v other is asleep does.
       let duty = serves_by_duty limits me v other debt does in
-      inl (sets duty, mutex_refuses limits new v other (duty_in_mutex limits me duty) taken))
+      inl (sets duty.0, inl (mutex_refuses limits new v other (duty_in_mutex limits me duty.0) duty.1 taken)))
       (λ other asleep. cc))
 
-  marks : KeepsParking limits core true views
+  -- the party owes all a wake-up, if S was set
+  all_owed : (you : ParkView) (new : ℕ) (now : Bool) → me.debt ≡ Nothing → limits.wakes_one ≡ false → (s ≡ true → you.debt ≡ All) → you.park ≡ Awake
+      → NoneIsForgotten limits new false now (slice_set views k you)
+  all_owed you new now debt many owes awake =
+      forgets_none limits core new t false s now views k me you at kept.none_forgotten
+      (λ j v other apart is asleep set refused.
+      let reached : reaches limits you.debt v other ≡ true = ap (λ d. reaches limits d v other) (owes set) in
+      inr (here limits views k me you v other at (or_left (reaches limits you.debt v other) (has_duty limits you && not v.held.announced) reached)))
+      (λ j v other is asleep does.
+      let duty = serves_by_duty limits me v other debt does in
+      absurd (false≢true (sym many ∙ duty_in_mutex limits me duty.0)))
+      (λ other asleep. let sleeping : Asleep other ≡ Awake = sym asleep ∙ awake in cc)
+
+  takes_turn : (want : ExWant) (now : Bool) (debt : Debt) → IsTrue (hold_has me.held (step_of_want want))
+      → IsTrue (word_admits me.held.announced limits.readers core want)
+      → me.debt ≡ Nothing → limits.wakes_one ≡ false → (s ≡ true → debt ≡ All)
+      → KeepsParking limits (word_after core want) false now (slice_set views k (with_debt (after_win me want) debt))
+  takes_turn want now debt has admits nothing many owes =
+      let you = with_debt (after_win me want) debt in
+      let new = word_after core want in
+      let won = keeps_exchange limits.readers core (parties_of views) k (party_of me) want range rule (party_at views k me at) has admits in
+      keeps new false now you
+      (sums_of limits.readers new (slice_set (parties_of views) k (turns.after_win (party_of me) (step_of_want want))) (slice_set views k you)
+      (set_holds views k (turns.after_win (party_of me) (step_of_want want)) you refl) won)
+      (λ other asleep. cc) (λ one. refl)
+      (all_owed you new now nothing many owes refl)
+
+  drops_turn : (debt : Debt) → me.debt ≡ Nothing → limits.wakes_one ≡ false → (s ≡ true → debt ≡ All)
+      → KeepsParking limits core false s (slice_set views k (with_debt (with_park me Awake) debt))
+  drops_turn debt nothing many owes =
+      let you = with_debt (with_park me Awake) debt in
+      keeps core false s you (sums_same limits.readers core views (slice_set views k you) (same_holds views k me you at refl) sums)
+      (λ other asleep. cc) (λ one. refl)
+      (all_owed you core s nothing many owes refl)
+
+  turns_set : limits.wakes_one ≡ false → KeepsParking limits core true true views
+  turns_set many =
+      record {
+        coded = kept.coded;
+        legal = kept.legal;
+        one_token = kept.one_token;
+        no_turn = λ one. absurd (false≢true (sym many ∙ one));
+        entitled = kept.entitled;
+        none_forgotten = λ j v want is asleep.
+            elim (kept.none_forgotten j v want is asleep) [ inl e ↦ inl (refl, still v want e.1) | inr e ↦ inr e ];
+      }
+    where
+      still : (v : ParkView) (want : ExWant) → IsRefused limits core t v want → IsRefused limits core true v want
+      still v want (inl core_does) = inl core_does
+      still v want (inr turn) = inr (refl, turn.1)
+
+  marks : KeepsParking limits core t true views
   marks =
       record {
         coded = kept.coded;
         legal = kept.legal;
         one_token = kept.one_token;
-        no_bar = kept.no_bar;
+        no_turn = kept.no_turn;
         entitled = kept.entitled;
         none_forgotten = λ j v want is asleep.
             elim (kept.none_forgotten j v want is asleep) [ inl e ↦ inl (refl, e.1) | inr e ↦ inr e ];
       }
 
   -- a sleeper that was refused, after a release that does what it has to
-  paid : (new : ℕ) (t : Bool) (debt : Debt) (held : Hold) (j : ℕ) (v : ParkView) (want : ExWant) → IsPaid limits core new s t debt
-      → Sums limits.readers new (slice_set views k record { held = held; park = Awake; debt = debt })
-      → slice_get views j ≡ Some v → v.park ≡ Asleep want → s ≡ true → admits_to limits core v want ≡ false
-      → IsServed limits new t (slice_set views k record { held = held; park = Awake; debt = debt }) v want
-  paid new t Nothing held j v want (is_unset clear) total is asleep set refused = absurd (false≢true (sym clear ∙ set))
-  paid new t Nothing held j v want (is_unneeded need keeps_s) total is asleep set refused =
+  -- the party after the release
+  abbrev freed : Hold → Debt → ParkView
+  freed held debt = record { held = held; park = Awake; debt = debt }
+
+  -- under a bar, those that are not next are refused
+  still_barred : (new : ℕ) (j : ℕ) (v : ParkView) (want : ExWant) → 2 ^ 34 ≤ new → slice_get views j ≡ Some v → v.park ≡ Asleep want → is_next v want ≡ false
+      → admits_to limits new v want ≡ false
+  still_barred new j v want bar is asleep not_next =
+      elim (cases_Bool limits.wakes_one) [
+        | inl one ↦ mutex_refuses limits new v want one (or_parts v.held.announced (is_upgrade want) not_next).0 (λ free. omega arith)
+        | inr many ↦ barred_refuses limits new v want many (kept.entitled j v want is asleep).0 bar not_next
+      ]
+
+  paid : (new : ℕ) (now : Bool) (debt : Debt) (held : Hold) (j : ℕ) (v : ParkView) (want : ExWant) → IsPaid limits core new t s now debt
+      → Sums limits.readers new (slice_set views k (freed held debt))
+      → j ≢ k → slice_get views j ≡ Some v → v.park ≡ Asleep want → s ≡ true → IsRefused limits core t v want
+      → IsServed limits new t now (slice_set views k (freed held debt)) v want
+  paid new now Nothing held j v want (is_unset clear) total apart is asleep set refused = absurd (false≢true (sym clear ∙ set))
+  paid new now Nothing held j v want (is_unneeded need keeps_s) total apart is asleep set refused =
       inl (
         keeps_s,
-        elim (cases_Bool limits.wakes_one) [
-          | inl one ↦
-              (let opened : frees limits core new ≡ (new == 0) = ap (λ b. if b then new == 0 else word_unblocks limits.readers core new) one in
-              mutex_refuses limits new v want one (λ free. false≢true (sym need ∙ (opened ∙ eq-eqb new 0 free))))
-          | inr many ↦
-              (let opened : frees limits core new ≡ word_unblocks limits.readers core new = ap (λ b. if b then new == 0 else word_unblocks limits.readers core new) many in
-              let you : ParkView = record { held = held; park = Awake; debt = Nothing } in
-              let later = rule_of limits.readers new (slice_set views k you) total.coded total.legal in
-              others_admit limits new v want many
-              ∙ false_from_ne_true (word_admits v.held.announced limits.readers new want) (λ after.
-              let due = kept.entitled j v want is asleep in
-              let before = unblocks_misses_nobody v.held.announced limits.readers core new want range (packed_word limits.readers core (parties_of views) range rule)
-              (packed_word limits.readers new (parties_of (slice_set views k you)) range later) due.0 (sym opened ∙ need) after in
-              false≢true (sym refused ∙ (others_admit limits core v want many ∙ before))))
+        elim refused [
+          | inr turn ↦ inr turn
+          | inl core_refused ↦
+              inl (elim (cases_Bool limits.wakes_one) [
+                | inl one ↦
+                    held_refuses limits new v want one (still_held limits core new one need)
+                | inr many ↦
+                    (let opened : frees limits core new ≡ word_unblocks limits.readers core new = ap (λ b. if b then new % 2 ^ 34 == 0 else word_unblocks limits.readers core new) many in
+                    let you = freed held Nothing in
+                    let later = rule_of limits.readers new (slice_set views k you) total.coded total.legal in
+                    others_admit limits new v want many
+                    ∙ false_from_ne_true (word_admits v.held.announced limits.readers new want) (λ after.
+                    let due = kept.entitled j v want is asleep in
+                    let before = unblocks_misses_nobody v.held.announced limits.readers core new want range (packed_word limits.readers core (parties_of views) range rule)
+                    (packed_word limits.readers new (parties_of (slice_set views k you)) range later) due.0 (sym opened ∙ need) after in
+                    false≢true (sym core_refused ∙ (others_admit limits core v want many ∙ before))))
+              ])
         ],
       )
-  paid new t Next held j v want (is_barred bar keeps_s) total is asleep set refused =
+  paid new now Next held j v want (is_barred bar keeps_s) total apart is asleep set refused =
       elim (cases_Bool (is_next v want)) [
-        | inl next ↦ inr (here limits views k me record { held = held; park = Awake; debt = Next } v want at (or_left (is_next v want) (has_duty limits record { held = held; park = Awake; debt = Next }) next))
-        | inr not_next ↦ inl (
-          keeps_s,
-          elim (cases_Bool limits.wakes_one) [
-            | inl one ↦ mutex_refuses limits new v want one (λ free. omega arith)
-            | inr many ↦ barred_refuses limits new v want many (kept.entitled j v want is asleep).0 bar not_next
-          ],
-        )
+        | inl next ↦ inr (here limits views k me (freed held Next) v want at (or_left (is_next v want) (has_duty limits (freed held Next) && not v.held.announced) next))
+        | inr not_next ↦ inl (keeps_s, inl (still_barred new j v want bar is asleep not_next))
       ]
-  paid new t All held j v want is_all total is asleep set refused = inr (here limits views k me record { held = held; park = Awake; debt = All } v want at refl)
-  paid new t One held j v want (is_one wakes) total is asleep set refused =
-      inr (here limits views k me record { held = held; park = Awake; debt = One } v want at (or_left limits.wakes_one (has_duty limits record { held = held; park = Awake; debt = One }) wakes))
+  paid new now Turn held j v want (is_shared_bar bar keeps_s) total apart is asleep set refused =
+      elim (cases_Bool (is_in_turn v want)) [
+        | inl in_turn ↦ inr (here limits views k me (freed held Turn) v want at (or_left (is_in_turn v want) (has_duty limits (freed held Turn) && not v.held.announced) in_turn))
+        | inr not_in ↦ inl (keeps_s, inl (still_barred new j v want bar is asleep (or_parts (is_next v want) (is_shared want) not_in).0))
+      ]
+  paid new now Turn held j v want (is_turned set_t keeps_s) total apart is asleep set refused =
+      elim (cases_Bool (is_in_turn v want)) [
+        | inl in_turn ↦ inr (here limits views k me (freed held Turn) v want at (or_left (is_in_turn v want) (has_duty limits (freed held Turn) && not v.held.announced) in_turn))
+        | inr not_in ↦ inl (keeps_s, inr (set_t, turn_refuses v want not_in))
+      ]
+  paid new now All held j v want is_all total apart is asleep set refused = inr (here limits views k me (freed held All) v want at refl)
+  paid new now One held j v want (is_one wakes low) total apart is asleep set refused =
+      let you = freed held One in
+      let later = rule_of limits.readers new (slice_set views k you) total.coded total.legal in
+      let seen = shows limits.readers new (parties_of (slice_set views k you)) j (party_of v) range later
+      (party_at (slice_set views k you) j v (other_stays views k j you v apart is)) in
+      let bare : v.held.announced ≡ false = false_from_ne_true v.held.announced (λ bar.
+      let shown = seen.announced (subst (λ b. 0 < (if b then 1 else 0)) (sym bar) (omega arith)) in omega arith) in
+      inr (here limits views k me you v want at
+      (or_left (limits.wakes_one && not v.held.announced) (has_duty limits you && not v.held.announced) (and_from limits.wakes_one (not v.held.announced) wakes (ap not bare))))
 
-  take : (down : Down) (t : Bool) (debt : Debt) → IsTrue (hold_has me.held (step_of_down down))
-      → me.debt ≡ Nothing → has_duty limits me ≡ false → IsPaid limits core (core - amount down) s t debt
-      → KeepsParking limits (core - amount down) t (slice_set views k (after_take me down debt))
-  take down t debt has nothing idle pays =
+  take : (down : Down) (now : Bool) (debt : Debt) → IsTrue (hold_has me.held (step_of_down down))
+      → me.debt ≡ Nothing → (IsTrue (has_duty limits me) → (now ≡ true) × (frees limits core (core - amount down) ≡ false))
+      → IsPaid limits core (core - amount down) t s now debt
+      → KeepsParking limits (core - amount down) t now (slice_set views k (after_take me down debt))
+  take down now debt has nothing dutiful pays =
       let you = after_take me down debt in
       let new = core - amount down in
       let won = keeps_take limits.readers core (parties_of views) k (party_of me) down range rule (party_at views k me at) has in
       let total = sums_of limits.readers new (slice_set (parties_of views) k (turns.after_win (party_of me) (step_of_down down))) (slice_set views k you)
       (set_holds views k (turns.after_win (party_of me) (step_of_down down)) you refl) won in
-      keeps new t you total
-      (λ one. let low = kept.no_bar one in omega arith)
+      keeps new t now you total
       (λ other asleep. cc)
-      (forgets_none limits core new s t views k me you at kept.none_forgotten
-      (λ j v want is asleep set refused. paid new t debt you.held j v want pays total is asleep set refused)
-      (λ j v want is asleep does. absurd (serves_none limits me v want nothing idle does))
+      kept.no_turn
+      (forgets_none limits core new t t s now views k me you at kept.none_forgotten
+      (λ j v want apart is asleep set refused. paid new now debt you.held j v want pays total apart is asleep set refused)
+      (λ j v want is asleep does.
+      let duty = (serves_by_duty limits me v want nothing does).0 in
+      let leaves = dutiful duty in
+      let one = duty_in_mutex limits me duty in
+      inl (leaves.0, inl (held_refuses limits new v want one (still_held limits core new one leaves.1))))
       (λ other asleep. cc))
 
-  sleeps : (want : ExWant) → IsEntitled me want → me.debt ≡ Nothing → s ≡ true → admits_to limits core me want ≡ false
-      → KeepsParking limits core s (slice_set views k (with_park me (Asleep want)))
+  sleeps : (want : ExWant) → IsEntitled me want → me.debt ≡ Nothing → s ≡ true → IsRefused limits core t me want
+      → KeepsParking limits core t s (slice_set views k (with_park me (Asleep want)))
   sleeps want due debt set refused =
       let you = with_park me (Asleep want) in
       quiet you refl (λ other asleep. by other asleep)
-      (forgets_none limits core core s s views k me you at kept.none_forgotten
-      (λ j v other is asleep was no. inl (was, no))
+      (forgets_none limits core core t t s s views k me you at kept.none_forgotten
+      (λ j v other apart is asleep was no. inl (was, no))
       (λ j v other is asleep does.
-      let one = duty_in_mutex limits me (serves_by_duty limits me v other debt does) in
-      inl (set, mutex_refuses limits core v other one (mutex_taken limits core me want one refused)))
-      (λ other asleep. inl (set, subst (λ w. admits_to limits core me w ≡ false) (same want other asleep) refused)))
+      let duty = serves_by_duty limits me v other debt does in
+      let one = duty_in_mutex limits me duty.0 in
+      inl (set, inl (mutex_refuses limits core v other one duty.1 (mutex_taken limits core me want one (no_turn_in one me want refused)))))
+      (λ other asleep. inl (set, subst (λ w. IsRefused limits core t me w) (same want other asleep) refused)))
     where
       same : (x y : ExWant) → Asleep x ≡ Asleep y → x ≡ y
       same x y e = cc
@@ -377,60 +530,68 @@ module _ (limits : ParkLimits) (core : ℕ) (s : Bool) (views : List ParkView) (
       by : (other : ExWant) → Asleep want ≡ Asleep other → IsEntitled (with_park me (Asleep want)) other
       by other e = subst (λ w. IsEntitled (with_park me (Asleep want)) w) (same want other e) due
 
-  wakes : KeepsParking limits core s (slice_set views k (with_park me Woken))
+  wakes : KeepsParking limits core t s (slice_set views k (with_park me Woken))
   wakes =
       let you = with_park me Woken in
       quiet you refl (λ other asleep. cc)
-      (forgets_none limits core core s s views k me you at kept.none_forgotten
-      (λ j v other is asleep was no. inl (was, no))
+      (forgets_none limits core core t t s s views k me you at kept.none_forgotten
+      (λ j v other apart is asleep was no. inl (was, no))
       (λ j v other is asleep does.
       inr (here limits views k me you v other at
-      (elim (or_cases (reaches limits me.debt v other) (has_duty limits me) does) [
-        | inl owes ↦ or_left (reaches limits me.debt v other) (has_duty limits you) owes
-        | inr duty ↦ or_right (reaches limits me.debt v other) (has_duty limits you) (and_from limits.wakes_one true (duty_in_mutex limits me duty) refl)
+      (elim (or_cases (reaches limits me.debt v other) (has_duty limits me && not v.held.announced) does) [
+        | inl owes ↦ or_left (reaches limits me.debt v other) (has_duty limits you && not v.held.announced) owes
+        | inr duty ↦
+            (let two = and_parts (has_duty limits me) (not v.held.announced) duty in
+            or_right (reaches limits me.debt v other) (has_duty limits you && not v.held.announced)
+            (and_from (has_duty limits you) (not v.held.announced) (and_from limits.wakes_one true (duty_in_mutex limits me two.0) refl) two.1))
       ])))
       (λ other asleep. cc))
 
   stops : me.debt ≡ Nothing → (IsTrue limits.wakes_one → (s ≡ true) × (core ≢ 0))
-      → KeepsParking limits core s (slice_set views k (with_park me Awake))
+      → KeepsParking limits core t s (slice_set views k (with_park me Awake))
   stops debt found =
       let you = with_park me Awake in
       quiet you refl (λ other asleep. cc)
-      (forgets_none limits core core s s views k me you at kept.none_forgotten
-      (λ j v other is asleep was no. inl (was, no))
+      (forgets_none limits core core t t s s views k me you at kept.none_forgotten
+      (λ j v other apart is asleep was no. inl (was, no))
       (λ j v other is asleep does.
-      let one = duty_in_mutex limits me (serves_by_duty limits me v other debt does) in
-      inl ((found one).0, mutex_refuses limits core v other one (found one).1))
+      let duty = serves_by_duty limits me v other debt does in
+      let one = duty_in_mutex limits me duty.0 in
+      inl ((found one).0, inl (mutex_refuses limits core v other one duty.1 (found one).1)))
       (λ other asleep. cc))
 
   pays_one : (j : ℕ) (w : ParkView) → me.debt ≡ One → is_asleep me.park ≡ false → j ≢ k → slice_get views j ≡ Some w → w.park ≡ Woken
-      → KeepsParking limits core s (slice_set views k (with_debt me Nothing))
+      → KeepsParking limits core t s (slice_set views k (with_debt me Nothing))
   pays_one j w owes awake other is_w woken =
       let you = with_debt me Nothing in
       quiet you refl (λ want asleep. absurd (true≢false (sym (ap is_asleep asleep) ∙ awake)))
-      (forgets_none limits core core s s views k me you at kept.none_forgotten
-      (λ i v want is asleep was no. inl (was, no))
+      (forgets_none limits core core t t s s views k me you at kept.none_forgotten
+      (λ i v want apart is asleep was no. inl (was, no))
       (λ i v want is asleep does.
-      let wakes_one : IsTrue limits.wakes_one
-      = elim (or_cases (reaches limits me.debt v want) (has_duty limits me) does) [
-        | inl reached ↦ sym (ap (λ d. reaches limits d v want) owes) ∙ reached
-        | inr duty ↦ duty_in_mutex limits me duty
+      let owed : IsTrue limits.wakes_one × IsTrue (not v.held.announced)
+      = elim (or_cases (reaches limits me.debt v want) (has_duty limits me && not v.held.announced) does) [
+        | inl reached ↦ and_parts limits.wakes_one (not v.held.announced) (sym (ap (λ d. reaches limits d v want) owes) ∙ reached)
+        | inr duty ↦
+            (let two = and_parts (has_duty limits me) (not v.held.announced) duty in
+            (duty_in_mutex limits me two.0, two.1))
       ] in
       inr record {
         number = j;
         server = w;
         is = other_stays views k j you w other is_w;
-        does = or_right (reaches limits w.debt v want) (has_duty limits w) (and_from limits.wakes_one (is_woken w.park) wakes_one (ap is_woken woken));
+        does =
+            or_right (reaches limits w.debt v want) (has_duty limits w && not v.held.announced)
+            (and_from (has_duty limits w) (not v.held.announced) (and_from limits.wakes_one (is_woken w.park) owed.0 (ap is_woken woken)) owed.1);
       })
       (λ want asleep. absurd (true≢false (sym (ap is_asleep asleep) ∙ awake))))
 
   pays_nobody : ((j : ℕ) (v : ParkView) → slice_get views j ≡ Some v → is_asleep v.park ≡ false)
-      → KeepsParking limits core s (slice_set views k (with_debt me Nothing))
+      → KeepsParking limits core t s (slice_set views k (with_debt me Nothing))
   pays_nobody nobody =
       let you = with_debt me Nothing in
       quiet you refl (λ want asleep. absurd (true≢false (sym (ap is_asleep asleep) ∙ nobody k me at)))
-      (forgets_none limits core core s s views k me you at kept.none_forgotten
-      (λ i v want is asleep was no. inl (was, no))
+      (forgets_none limits core core t t s s views k me you at kept.none_forgotten
+      (λ i v want apart is asleep was no. inl (was, no))
       (λ i v want is asleep does. absurd (true≢false (sym (ap is_asleep asleep) ∙ nobody i v is)))
       (λ want asleep. absurd (true≢false (sym (ap is_asleep asleep) ∙ nobody k me at))))
 
@@ -446,7 +607,7 @@ of_mapped f (v ∷ views) (suc j) w h = of_mapped f views j w h
 in_mapped : (f : ParkView → ParkView) (views : List ParkView) (j : ℕ) (v : ParkView) → slice_get views j ≡ Some v → slice_get (map f views) j ≡ Some (f v)
 in_mapped f views j v h = rw (slice_get-map f views j, h)
 
-mapped_holds : (f : ParkView → ParkView) (views : List ParkView) → ((v : ParkView) → (f v).held ≡ v.held) → holds_of (map f views) ≡ holds_of views
+pub mapped_holds : (f : ParkView → ParkView) (views : List ParkView) → ((v : ParkView) → (f v).held ≡ v.held) → holds_of (map f views) ≡ holds_of views
 mapped_holds f [] same = refl
 mapped_holds f (v ∷ views) same = ap (λ hs. (f v).held ∷ hs) (mapped_holds f views same) ∙ ap (λ h. h ∷ holds_of views) (same v)
 
@@ -455,38 +616,39 @@ none_asleep_all Awake want e = cc
 none_asleep_all (Asleep x) want e = cc
 none_asleep_all Woken want e = cc
 
--- one that sleeps on slept before, and is not next
-sleeps_on : (v : ParkView) (park : Park) (want : ExWant) → wake_park_next v park ≡ Asleep want → (park ≡ Asleep want) × (is_next v want ≡ false)
-sleeps_on v Awake want e = cc
-sleeps_on v (Asleep x) want e = by (is_next v x) refl e
+-- one that sleeps on slept before, and the test does not name it
+sleeps_on : (test : ParkView → ExWant → Bool) (v : ParkView) (park : Park) (want : ExWant) → wake_park_of test v park ≡ Asleep want → (park ≡ Asleep want) × (test v want ≡ false)
+sleeps_on test v Awake want e = cc
+sleeps_on test v (Asleep x) want e = by (test v x) refl e
   where
     same : (x y : ExWant) → Asleep x ≡ Asleep y → x ≡ y
     same x y e = cc
 
-    by : (b : Bool) → b ≡ is_next v x → (if b then Woken else Asleep x) ≡ Asleep want → (Asleep x ≡ Asleep want) × (is_next v want ≡ false)
+    by : (b : Bool) → b ≡ test v x → (if b then Woken else Asleep x) ≡ Asleep want → (Asleep x ≡ Asleep want) × (test v want ≡ false)
     by true is e = cc
-    by false is e = (e, subst (λ w. is_next v w ≡ false) (same x want e) (sym is))
-sleeps_on v Woken want e = cc
+    by false is e = (e, subst (λ w. test v w ≡ false) (same x want e) (sym is))
+sleeps_on test v Woken want e = cc
 
-woken_stays : (v : ParkView) (park : Park) → IsTrue (is_woken park) → IsTrue (is_woken (wake_park_next v park))
-woken_stays v Awake h = h
-woken_stays v (Asleep x) h = absurd (false≢true h)
-woken_stays v Woken h = h
+woken_stays : (test : ParkView → ExWant → Bool) (v : ParkView) (park : Park) → IsTrue (is_woken park) → IsTrue (is_woken (wake_park_of test v park))
+woken_stays test v Awake h = h
+woken_stays test v (Asleep x) h = absurd (false≢true h)
+woken_stays test v Woken h = h
 
-still_reaches : (limits : ParkLimits) (debt : Debt) (v : ParkView) (want : ExWant) → IsTrue (reaches limits debt v want)
-    → IsTrue (reaches limits debt (wake_next v) want)
-still_reaches limits Nothing v want h = h
-still_reaches limits One v want h = h
-still_reaches limits All v want h = h
-still_reaches limits Next v want h = h
+still_reaches : (test : ParkView → ExWant → Bool) (limits : ParkLimits) (debt : Debt) (v : ParkView) (want : ExWant) → IsTrue (reaches limits debt v want)
+    → IsTrue (reaches limits debt (wake_of test v) want)
+still_reaches test limits Nothing v want h = h
+still_reaches test limits One v want h = h
+still_reaches test limits All v want h = h
+still_reaches test limits Next v want h = h
+still_reaches test limits Turn v want h = h
 
-module _ (limits : ParkLimits) (core : ℕ) (s : Bool) (views : List ParkView) (k : ℕ) (me : ParkView)
-    (range : IsLimit limits.readers) (kept : KeepsParking limits core s views) (at : slice_get views k ≡ Some me) where
+module _ (limits : ParkLimits) (core : ℕ) (t s : Bool) (views : List ParkView) (k : ℕ) (me : ParkView)
+    (range : IsLimit limits.readers) (kept : KeepsParking limits core t s views) (at : slice_get views k ≡ Some me) where
   -- the party at k pays, and f wakes
   paid_by : (f : ParkView → ParkView) (views_after : List ParkView) → views_after ≡ slice_set (map f views) k (with_debt (f me) Nothing)
       → ((v : ParkView) → (f v).held ≡ v.held)
-      → ((j : ℕ) (w : ParkView) (want : ExWant) → slice_get views_after j ≡ Some w → w.park ≡ Asleep want → IsEntitled w want × IsServed limits core s views_after w want)
-      → KeepsParking limits core s views_after
+      → ((j : ℕ) (w : ParkView) (want : ExWant) → slice_get views_after j ≡ Some w → w.park ≡ Asleep want → IsEntitled w want × IsServed limits core t s views_after w want)
+      → KeepsParking limits core t s views_after
   paid_by f later is same each =
       let mid = map f views in
       let you = with_debt (f me) Nothing in
@@ -497,12 +659,12 @@ module _ (limits : ParkLimits) (core : ℕ) (s : Bool) (views : List ParkView) (
         coded = total.coded;
         legal = total.legal;
         one_token = kept.one_token;
-        no_bar = kept.no_bar;
+        no_turn = kept.no_turn;
         entitled = λ j w want at_j asleep. (each j w want at_j asleep).0;
         none_forgotten = λ j w want at_j asleep. (each j w want at_j asleep).1;
       }
 
-  pays_all : me.debt ≡ All → KeepsParking limits core s (slice_set (map wake_all views) k (with_debt (wake_all me) Nothing))
+  pays_all : me.debt ≡ All → KeepsParking limits core t s (slice_set (map wake_all views) k (with_debt (wake_all me) Nothing))
   pays_all owes =
       let you = with_debt (wake_all me) Nothing in
       paid_by wake_all (slice_set (map wake_all views) k you) refl (λ v. refl) (λ j w want is asleep.
@@ -513,22 +675,25 @@ module _ (limits : ParkLimits) (core : ℕ) (s : Bool) (views : List ParkView) (
             absurd (none_asleep_all from.0.park want (subst (λ (x : ParkView). x.park ≡ Asleep want) from.2 asleep)))
       ])
 
-  pays_next : me.debt ≡ Next → is_asleep me.park ≡ false → has_duty limits me ≡ false
-      → KeepsParking limits core s (slice_set (map wake_next views) k (with_debt (wake_next me) Nothing))
-  pays_next owes awake idle =
-      let you = with_debt (wake_next me) Nothing in
-      let mid = map wake_next views in
-      paid_by wake_next (slice_set mid k you) refl (λ v. refl) (λ j w want is asleep.
+  -- a wake-up of those that the test names, whom the debt reaches
+  pays_some : (test : ParkView → ExWant → Bool) (debt : Debt) → ((v : ParkView) (want : ExWant) → reaches limits debt v want ≡ test v want)
+      → me.debt ≡ debt → is_asleep me.park ≡ false → has_duty limits me ≡ false
+      → KeepsParking limits core t s (slice_set (map (wake_of test) views) k (with_debt (wake_of test me) Nothing))
+  pays_some test debt names owes awake idle =
+      let wakes = wake_of test in
+      let you = with_debt (wakes me) Nothing in
+      let mid = map wakes views in
+      paid_by wakes (slice_set mid k you) refl (λ v. refl) (λ j w want is asleep.
       elim (changed_or_not mid k j you w is) [
         | inl e ↦
-            (let mine = sleeps_on me me.park want (subst (λ (x : ParkView). x.park ≡ Asleep want) e.1 asleep) in
+            (let mine = sleeps_on test me me.park want (subst (λ (x : ParkView). x.park ≡ Asleep want) e.1 asleep) in
             absurd (true≢false (sym (ap is_asleep mine.0) ∙ awake)))
         | inr e ↦
-            (let from = of_mapped wake_next views j w e.1 in
+            (let from = of_mapped wakes views j w e.1 in
             let v = from.0 in
-            let slept = sleeps_on v v.park want (subst (λ (x : ParkView). x.park ≡ Asleep want) from.2 asleep) in (
+            let slept = sleeps_on test v v.park want (subst (λ (x : ParkView). x.park ≡ Asleep want) from.2 asleep) in (
               subst (λ (x : ParkView). IsEntitled x want) (sym from.2) (kept.entitled j v want from.1 slept.0),
-              subst (λ (x : ParkView). IsServed limits core s (slice_set mid k you) x want) (sym from.2)
+              subst (λ (x : ParkView). IsServed limits core t s (slice_set mid k you) x want) (sym from.2)
                   (elim (kept.none_forgotten j v want from.1 slept.0) [
                     | inl before ↦ inl before
                     | inr someone ↦
@@ -538,20 +703,23 @@ module _ (limits : ParkLimits) (core : ℕ) (s : Bool) (views : List ParkView) (
                               let is_me : someone.server ≡ me = same_Some someone.server me (sym found ∙ at) in
                               let does : IsTrue (serves limits me v want) = subst (λ (x : ParkView). IsTrue (serves limits x v want)) is_me someone.does in
                               let not_me : serves limits me v want ≡ false
-                              = or_no (reaches limits me.debt v want) (has_duty limits me) (ap (λ d. reaches limits d v want) owes ∙ slept.1) idle in
+                              = or_no (reaches limits me.debt v want) (has_duty limits me && not v.held.announced) (ap (λ d. reaches limits d v want) owes ∙ (names v want ∙ slept.1))
+                              (ap (λ b. b && not v.held.announced) idle) in
                               absurd (true≢false (sym does ∙ not_me)))
                           | inr other ↦ inr record {
                             number = someone.number;
-                            server = wake_next someone.server;
-                            is = other_stays mid k someone.number you (wake_next someone.server) other (in_mapped wake_next views someone.number someone.server someone.is);
+                            server = wakes someone.server;
+                            is = other_stays mid k someone.number you (wakes someone.server) other (in_mapped wakes views someone.number someone.server someone.is);
                             does =
-                                elim (or_cases (reaches limits someone.server.debt v want) (has_duty limits someone.server) someone.does) [
-                                  | inl owed ↦ or_left (reaches limits someone.server.debt (wake_next v) want) (has_duty limits (wake_next someone.server)) (still_reaches limits someone.server.debt v want owed)
+                                elim (or_cases (reaches limits someone.server.debt v want) (has_duty limits someone.server && not v.held.announced) someone.does) [
+                                  | inl owed ↦ or_left (reaches limits someone.server.debt (wakes v) want) (has_duty limits (wakes someone.server) && not v.held.announced) (still_reaches test limits someone.server.debt v want owed)
                                   | inr duty ↦
-                                      (let two = and_parts limits.wakes_one (is_woken someone.server.park) duty in
-                                      or_right (reaches limits someone.server.debt (wake_next v) want) (has_duty limits (wake_next someone.server))
-                                      (and_from limits.wakes_one (is_woken (wake_park_next someone.server someone.server.park)) two.0
-                                      (woken_stays someone.server someone.server.park two.1)))
+                                      (let both = and_parts (has_duty limits someone.server) (not v.held.announced) duty in
+                                      let two = and_parts limits.wakes_one (is_woken someone.server.park) both.0 in
+                                      or_right (reaches limits someone.server.debt (wakes v) want) (has_duty limits (wakes someone.server) && not v.held.announced)
+                                      (and_from (has_duty limits (wakes someone.server)) (not v.held.announced)
+                                      (and_from limits.wakes_one (is_woken (wake_park_of test someone.server someone.server.park)) two.0
+                                      (woken_stays test someone.server someone.server.park two.1)) both.1))
                                 ];
                           }
                         ]
@@ -559,23 +727,27 @@ module _ (limits : ParkLimits) (core : ℕ) (s : Bool) (views : List ParkView) (
             ))
       ])
 
-  pub each_step : EachStepKeeps limits core s views k me
+  pub each_step : EachStepKeeps limits core t s views k me
   each_step =
       record {
-        exchange = exchange limits core s views k me range kept at;
-        marks = marks limits core s views k me range kept at;
-        take = take limits core s views k me range kept at;
-        sleeps = sleeps limits core s views k me range kept at;
-        wakes = wakes limits core s views k me range kept at;
-        stops = stops limits core s views k me range kept at;
+        exchange = exchange limits core t s views k me range kept at;
+        takes_turn = takes_turn limits core t s views k me range kept at;
+        marks = marks limits core t s views k me range kept at;
+        turns = turns_set limits core t s views k me range kept at;
+        drops_turn = drops_turn limits core t s views k me range kept at;
+        take = take limits core t s views k me range kept at;
+        sleeps = sleeps limits core t s views k me range kept at;
+        wakes = wakes limits core t s views k me range kept at;
+        stops = stops limits core t s views k me range kept at;
         pays_all = pays_all;
-        pays_next = pays_next;
-        pays_one = pays_one limits core s views k me range kept at;
-        pays_nobody = pays_nobody limits core s views k me range kept at;
+        pays_next = pays_some is_next Next (λ v want. refl);
+        pays_turn = pays_some is_in_turn Turn (λ v want. refl);
+        pays_one = pays_one limits core t s views k me range kept at;
+        pays_nobody = pays_nobody limits core t s views k me range kept at;
       }
 
 pub starts : (limits : ParkLimits) → IsLimit limits.readers → (IsTrue limits.wakes_one → limits.readers ≡ 1)
-    → KeepsParking limits 0 false (new_party ∷ [])
+    → KeepsParking limits 0 false false (new_party ∷ [])
 starts limits range one =
     record {
       coded = refl;
@@ -584,7 +756,7 @@ starts limits range one =
         one_bar = omega arith;
       };
       one_token = one;
-      no_bar = λ is_one. omega arith;
+      no_turn = λ is. refl;
       entitled = λ k v want is asleep. absurd (awake k v want is asleep);
       none_forgotten = λ k v want is asleep. absurd (awake k v want is asleep);
     }

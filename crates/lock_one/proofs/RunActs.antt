@@ -1,5 +1,5 @@
 -- The calls that begin, the steps on the word and the parks keep it.
-use Rattle.std.proofs.Common.{◌≡◌, ℕ, not, Bool, true, false, ◌&&◌, ◌||◌, ◌==◌, ◌^◌, nat_lt, if◌then◌else◌, inl, inr, slice_get, slice_set, Option, Some, None, IsTrue, refl, sym, ap, subst, ◌∙◌, eqb-true}
+use Rattle.std.proofs.Common.{◌≡◌, ℕ, not, Bool, true, false, ◌&&◌, ◌==◌, ◌^◌, nat_lt, if◌then◌else◌, inl, inr, slice_get, slice_set, Option, Some, None, IsTrue, refl, sym, ap, subst, ◌∙◌, eqb-true}
 use Rattle.std.proofs.lemmas.Bool.{false≢true, and_parts}
 use Rattle.lock_modes.specs.declared.hold.Hold.{Hold}
 use Rattle.lock_modes.specs.Limits.{IsLimit}
@@ -21,8 +21,9 @@ use Rattle.lock_one.specs.declared.park.ParkView.{ParkView}
 use Rattle.lock_one.specs.declared.park.Park.TheVariants.{Asleep, Woken}
 use Rattle.lock_one.specs.declared.park.Debt.{Debt}
 use Rattle.lock_one.specs.declared.park.Debt.TheVariants as debt
-use Rattle.lock_one.specs.Rule.{is_asleep, is_woken, is_upgrade, with_park}
-use Rattle.lock_one.specs.Machine.{Progress, acquiring, taking, release_on, alone, removes_reader, goes_to, begun, next_at, next_of}
+use Rattle.lock_one.specs.declared.action.Sleeper.{Sleeper}
+use Rattle.lock_one.specs.Rule.{is_asleep, is_woken, with_park}
+use Rattle.lock_one.specs.Machine.{Progress, has_slept, class_of, is_brief, acquiring, taking, release_on, alone, removes_reader, goes_to, begun, next_at, next_of}
 use Rattle.lock_one.specs.Steps.{made, touches, ends, limits_of, hold_at, AtRest, IsPause, IsWake, IsAt, is_step, Keeps}
 use Rattle.lock_one.specs.Runs.{Underway, Thread, LockInUse, views_of, limits_in, is_idle, may_acquire, may_release, begins, view_after, goes_on, thread_after, with_thread, answer, steps_by, finds, parks_by, acquire_by, release_by}
 use Rattle.lock_one.proofs.Steps.{steps_keep_the_rule}
@@ -68,9 +69,10 @@ acquire_kept s k wish blocks announces (Some t) at run = by (may_acquire t wish)
                 bar = sym no_bar;
                 owes_none = rests.0.1;
                 woken = λ w. absurd (false≢true (sym (ap is_woken rests.0.0) ∙ w));
-                tries = λ b. (refl, refl);
-                no_bar = λ a. absurd (false≢true a);
+                tries = λ b. (refl, refl, refl);
+                patient = λ a. absurd (false≢true a);
                 writer = λ a. absurd (false≢true a);
+                reader = λ a. absurd (false≢true a);
               },
               ap is_asleep rests.0.0,
             ),
@@ -105,6 +107,16 @@ release_kept s k down (Some t) at run = by (may_release t down) refl
         placed_first has rests true e = ((has, rests.0, refl), refl, refl, refl, rests.1)
         placed_first has rests false e = ((has, rests.0, refl), refl, refl, refl, rests.1)
 
+-- a release sets no bar
+pub bare_after : (before : Hold) → before.announced ≡ false → (down : Down) → (hold_after before (step_of_down down)).announced ≡ false
+bare_after before clean down.Shared = clean
+bare_after before clean down.Exclusive = clean
+bare_after before clean down.Upgradable = clean
+bare_after before clean down.ToShared = clean
+bare_after before clean down.ToUpgradable = clean
+bare_after before clean down.UpgradableToShared = clean
+bare_after before clean down.Withdraw = refl
+
 -- the call has ended, or goes on
 pub goes_or_rests : (limits : ParkLimits) (next : Progress) (before : Hold) (v : ParkView) → IsAt next.0.stage next.0 v next.1
     → v.held ≡ hold_at next.0.stage next.0 before → limits_of next.0 ≡ limits → before.announced ≡ false → IsPlaced limits v (goes_on next before)
@@ -118,17 +130,18 @@ goes_or_rests limits next before v is held lock clean = by (ends next.1) refl
         rest_goes : (a : Action) → IsPause a → ends a ≡ true → ⊥
         rest_goes action.Load h e = absurd h
         rest_goes (action.Exchange x y) h e = absurd h
-        rest_goes (action.Park n f) h e = absurd h
+        rest_goes (action.Park n c b) h e = absurd h
         rest_goes (action.Subtract d) h e = absurd h
         rest_goes action.WakeOne h e = absurd h
         rest_goes action.WakeAll h e = absurd h
         rest_goes action.WakeNext h e = absurd h
+        rest_goes action.WakeTurn h e = absurd h
         rest_goes (action.Spin n) h e = false≢true e
         rest_goes action.Yield h e = absurd h
         rest_goes (action.End b) h e = absurd h
     at_end stage.Mark a is e = absurd (false≢true (sym (ap ends is.4) ∙ e))
     at_end stage.Sleep a is e = absurd (false≢true (sym (ap ends is.5 ∙ (quiet_sleep next.0).1) ∙ e))
-    at_end stage.Withdraw a is e = absurd (false≢true (sym (ap ends is.2) ∙ e))
+    at_end stage.Withdraw a is e = absurd (false≢true (sym (ap ends is.4) ∙ e))
     at_end stage.Leave a is e = absurd (false≢true (sym (ap ends is.4) ∙ e))
     at_end stage.Release a is e = absurd (false≢true (sym (ap ends is.2) ∙ e))
     at_end stage.LookToRemove a is e = absurd (false≢true (sym (ap ends is.2) ∙ e))
@@ -140,19 +153,12 @@ goes_or_rests limits next before v is held lock clean = by (ends next.1) refl
         wake_goes debt.One h = false≢true (sym (ap ends h) ∙ e)
         wake_goes debt.All h = false≢true (sym (ap ends h) ∙ e)
         wake_goes debt.Next h = false≢true (sym (ap ends h) ∙ e)
+        wake_goes debt.Turn h = false≢true (sym (ap ends h) ∙ e)
     at_end stage.WakeRefused a is e = absurd (false≢true (sym (ap ends is.2) ∙ e))
+    at_end stage.WakeAcquired a is e = absurd (false≢true (sym (ap ends is.2) ∙ e))
     at_end stage.Acquired a is e = is.0
     at_end stage.Refused a is e = is.0
     at_end stage.Ended a is e = is.0
-
-    down_end : (down : Down) → (hold_after before (step_of_down down)).announced ≡ false
-    down_end down.Shared = clean
-    down_end down.Exclusive = clean
-    down_end down.Upgradable = clean
-    down_end down.ToShared = clean
-    down_end down.ToUpgradable = clean
-    down_end down.UpgradableToShared = clean
-    down_end down.Withdraw = refl
 
     bar_end : (st : Stage) (a : Action) → IsAt st next.0 v a → v.held ≡ hold_at st next.0 before → ends a ≡ true → v.held.announced ≡ false
     bar_end stage.Look a is h e = absurd (false≢true (sym (ap ends is.1) ∙ e))
@@ -162,26 +168,28 @@ goes_or_rests limits next before v is held lock clean = by (ends next.1) refl
         quiet_goes : (a : Action) → IsPause a → ends a ≡ true → ⊥
         quiet_goes action.Load h e = absurd h
         quiet_goes (action.Exchange x y) h e = absurd h
-        quiet_goes (action.Park n f) h e = absurd h
+        quiet_goes (action.Park n c b) h e = absurd h
         quiet_goes (action.Subtract d) h e = absurd h
         quiet_goes action.WakeOne h e = absurd h
         quiet_goes action.WakeAll h e = absurd h
         quiet_goes action.WakeNext h e = absurd h
+        quiet_goes action.WakeTurn h e = absurd h
         quiet_goes (action.Spin n) h e = false≢true e
         quiet_goes action.Yield h e = absurd h
         quiet_goes (action.End b) h e = absurd h
     bar_end stage.Mark a is h e = absurd (false≢true (sym (ap ends is.4) ∙ e))
     bar_end stage.Sleep a is h e = absurd (false≢true (sym (ap ends is.5 ∙ (quiet_sleep next.0).1) ∙ e))
-    bar_end stage.Withdraw a is h e = absurd (false≢true (sym (ap ends is.2) ∙ e))
+    bar_end stage.Withdraw a is h e = absurd (false≢true (sym (ap ends is.4) ∙ e))
     bar_end stage.Leave a is h e = absurd (false≢true (sym (ap ends is.4) ∙ e))
     bar_end stage.Release a is h e = absurd (false≢true (sym (ap ends is.2) ∙ e))
     bar_end stage.LookToRemove a is h e = absurd (false≢true (sym (ap ends is.2) ∙ e))
     bar_end stage.Subtract a is h e = absurd (false≢true (sym (ap ends is.2) ∙ e))
-    bar_end stage.Wake a is h e = ap (λ (x : Hold). x.announced) h ∙ down_end next.0.down
+    bar_end stage.Wake a is h e = ap (λ (x : Hold). x.announced) h ∙ bare_after before clean next.0.down
     bar_end stage.WakeRefused a is h e = ap (λ (x : Hold). x.announced) h
+    bar_end stage.WakeAcquired a is h e = is.3
     bar_end stage.Acquired a is h e = is.2
     bar_end stage.Refused a is h e = ap (λ (x : Hold). x.announced) h
-    bar_end stage.Ended a is h e = ap (λ (x : Hold). x.announced) h ∙ down_end next.0.down
+    bar_end stage.Ended a is h e = ap (λ (x : Hold). x.announced) h ∙ bare_after before clean next.0.down
 
     by : (b : Bool) → ends next.1 ≡ b → IsPlaced limits v (if b then None else Some record { at = next; before = before })
     by true e = (at_end next.0.stage next.1 is e, bar_end next.0.stage next.1 is held e)
@@ -189,7 +197,7 @@ goes_or_rests limits next before v is held lock clean = by (ends next.1) refl
 
 -- a step on the word
 pub step_kept : (s : LockInUse) (k given : ℕ) (t : Thread) (u : Underway) → slice_get s.threads k ≡ Some t → IsPlaced (limits_in s.readers) t.view (Some u)
-    → is_step u.at.0.stage ≡ true → is_asleep t.view.park ≡ false → (IsTrue (is_woken t.view.park) → u.at.0.slept ≡ true) → RunKept s
+    → is_step u.at.0.stage ≡ true → is_asleep t.view.park ≡ false → (IsTrue (is_woken t.view.park) → has_slept u.at.0 ≡ true) → RunKept s
     → RunKept (steps_by s k given t u)
 step_kept s k given t u at place stepping awake woken run =
     let call = u.at.0 in
@@ -202,8 +210,8 @@ step_kept s k given t u at place stepping awake woken run =
     let range : IsLimit call.readers = subst (λ (l : ParkLimits). IsLimit l.readers) (sym lock) run.range in
     let keeps : Keeps (limits_of call) s.word views = subst (λ l. Keeps l s.word views) (sym lock) run.keeps in
     let kept = steps_keep_the_rule s.word views k t.view call a found u.before range keeps here place.0 place.1 stepping (reads (touches a)) in
-    let same_limits : limits_of next.0 ≡ limits_of call = ap (λ (p : ParkLimits × Bool). p.0) kept.same_lock in
-    let same_slept : next.0.slept ≡ call.slept = ap (λ (p : ParkLimits × Bool). p.1) kept.same_lock in
+    let same_limits : limits_of next.0 ≡ limits_of call = ap (λ (p : ParkLimits × ℕ). p.0) kept.same_lock in
+    let same_slept : has_slept next.0 ≡ has_slept call = ap (λ (p : ParkLimits × ℕ). not (p.1 == 0)) kept.same_lock in
     let to = settled next.0.stage next.0 kept.you next.1 t.view.park (hold_at next.0.stage next.0 u.before) kept.at kept.held kept.parked awake
     (λ w. same_slept ∙ woken w) in
     let w = view_after next t.view.park u.before in
@@ -221,7 +229,7 @@ step_kept s k given t u at place stepping awake woken run =
     reads false h = absurd (false≢true h)
 
 pub awake_at : (st : Stage) (call : Call) (v : ParkView) (a : Action) → IsAt st call v a → is_step st ≡ true
-    → (is_asleep v.park ≡ false) × (IsTrue (is_woken v.park) → call.slept ≡ true)
+    → (is_asleep v.park ≡ false) × (IsTrue (is_woken v.park) → has_slept call ≡ true)
 awake_at stage.Look call v a is h = (is.0.1, is.0.0.woken)
 awake_at stage.Try call v a is h = (is.0.1, is.0.0.woken)
 awake_at stage.Pause call v a is h = (is.0.1, is.0.0.woken)
@@ -234,14 +242,15 @@ awake_at stage.LookToRemove call v a is h = (ap is_asleep is.1.0, λ w. absurd (
 awake_at stage.Subtract call v a is h = (ap is_asleep is.1.0, λ w. absurd (false≢true (sym (ap is_woken is.1.0) ∙ w)))
 awake_at stage.Wake call v a is h = absurd (false≢true h)
 awake_at stage.WakeRefused call v a is h = absurd (false≢true h)
+awake_at stage.WakeAcquired call v a is h = absurd (false≢true h)
 awake_at stage.Acquired call v a is h = absurd (false≢true h)
 awake_at stage.Refused call v a is h = absurd (false≢true h)
 awake_at stage.Ended call v a is h = absurd (false≢true h)
 
 -- a park finds the loaded word
-found_loaded : (few passes : Bool) (n word : ℕ) → finds (if few then action.Park n passes else action.Yield) word ≡ true → word ≡ n
-found_loaded true passes n word e = eqb-true word n e
-found_loaded false passes n word e = absurd (false≢true e)
+found_loaded : (few : Bool) (class : Sleeper) (brief : Bool) (n word : ℕ) → finds (if few then action.Park n class brief else action.Yield) word ≡ true → word ≡ n
+found_loaded true class brief n word e = eqb-true word n e
+found_loaded false class brief n word e = absurd (false≢true e)
 
 -- a park
 pub park_kept : (s : LockInUse) (k given : ℕ) (t : Thread) (u : Underway) → slice_get s.threads k ≡ Some t → IsAt stage.Sleep u.at.0 t.view u.at.1
@@ -266,7 +275,7 @@ park_kept s k given t u at is held lock clean sleeps calls run =
         let one = and_parts (given == 0) (finds u.at.1 s.word && not (is_asleep t.view.park)) e in
         let two = and_parts (finds u.at.1 s.word) (not (is_asleep t.view.park)) one.1 in
         let word : s.word ≡ u.at.0.loaded
-        = found_loaded (nat_lt call.readers (2 ^ 28)) (call.announced || is_upgrade call.want) call.loaded s.word (subst (λ a. finds a s.word ≡ true) is.5 two.0) in
+        = found_loaded (nat_lt call.readers (2 ^ 27)) (class_of call.announced call.want) (is_brief call) call.loaded s.word (subst (λ a. finds a s.word ≡ true) is.5 two.0) in
         let asleep = sleeps_keep_the_rule.falls_asleep (views_of s.threads) k t.view u.at.0 u.at.1 range
         (subst (λ n. Keeps (limits_of u.at.0) n (views_of s.threads)) word keeps) (view_in s.threads k t at) is in
         let v = with_park t.view (Asleep u.at.0.want) in

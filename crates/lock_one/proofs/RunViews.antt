@@ -1,5 +1,5 @@
 -- What a run keeps of its threads and their views.
-use Rattle.std.proofs.Common.{◌≡◌, ℕ, zero, suc, Bool, true, false, ◌||◌, ◌==◌, ◌^◌, nat_lt, if◌then◌else◌, ◌⊎◌, inl, inr, List, [], ◌∷◌, slice_get, slice_set, Option, Some, None, IsTrue, refl, sym, ap, subst, ◌∙◌}
+use Rattle.std.proofs.Common.{◌≡◌, ℕ, zero, suc, Bool, true, false, ◌^◌, nat_lt, if◌then◌else◌, ◌⊎◌, inl, inr, List, [], ◌∷◌, slice_get, slice_set, Option, Some, None, IsTrue, refl, sym, ap, subst, ◌∙◌}
 use Rattle.std.proofs.lemmas.Bool.{false≢true, true≢false}
 use Rattle.std.proofs.lemmas.List.{map-set}
 use Rattle.std.proofs.lemmas.Option.{slice_get-map}
@@ -19,8 +19,8 @@ use Rattle.lock_one.specs.declared.park.Park.{Park}
 use Rattle.lock_one.specs.declared.park.Park.TheVariants.{Awake, Asleep, Woken}
 use Rattle.lock_one.specs.declared.park.Debt.{Debt}
 use Rattle.lock_one.specs.declared.park.Debt.TheVariants as debt
-use Rattle.lock_one.specs.Rule.{is_asleep, is_woken, is_upgrade, KeepsParking, with_park}
-use Rattle.lock_one.specs.Machine.{core_of, has_sleepers, sleep_of}
+use Rattle.lock_one.specs.Rule.{is_asleep, is_woken, KeepsParking, with_park}
+use Rattle.lock_one.specs.Machine.{core_of, has_turn, has_sleepers, has_slept, is_due, class_of, is_brief, sleep_of}
 use Rattle.lock_one.specs.Steps.{ends, limits_of, hold_at, Acquires, AtRest, IsPause, IsWake, IsAt, Keeps}
 use Rattle.lock_one.specs.Runs.{Underway, Thread, LockInUse, views_of, limits_in, park_at, debt_at}
 use Rattle.lock_one.proofs.Parking.{each_step}
@@ -80,17 +80,17 @@ asleep_for Woken h = absurd (false≢true h)
 pub keeps_woken : (limits : ParkLimits) (word : ℕ) (views : List ParkView) (k : ℕ) (me you : ParkView) → IsLimit limits.readers
     → slice_get views k ≡ Some me → Keeps limits word (slice_set views k you) → Keeps limits word (slice_set views k (with_park you Woken))
 keeps_woken limits word views k me you range at keeps =
-    let step = (each_step limits (core_of word) (has_sleepers word) (slice_set views k you) k you range keeps.kept (placed views k me you at)).wakes in
-    record { small = keeps.small; kept = subst (λ vs. KeepsParking limits (core_of word) (has_sleepers word) vs) (set_twice views k you (with_park you Woken)) step }
+    let step = (each_step limits (core_of word) (has_turn word) (has_sleepers word) (slice_set views k you) k you range keeps.kept (placed views k me you at)).wakes in
+    record { small = keeps.small; kept = subst (λ vs. KeepsParking limits (core_of word) (has_turn word) (has_sleepers word) vs) (set_twice views k you (with_park you Woken)) step }
 
 -- the party after a step: that of the law, or that one woken
 pub record Settled (you w : ParkView) (stage_ : Stage) (call : Call) (a : Action) : Type 0 where
   pub either : (w ≡ you) ⊎ (w ≡ with_park you Woken)
   pub at : IsAt stage_ call w a
 
-as_woken : (wish : ExWant) (an slept bl one : Bool) (v : ParkView) (p : Park) → Acquires wish an slept bl one v → (IsTrue (is_woken p) → slept ≡ true)
-    → Acquires wish an slept bl one (with_park v p)
-as_woken wish an slept bl one v p acq woken =
+as_woken : (wish : ExWant) (an turned slept bl due : Bool) (v : ParkView) (p : Park) → Acquires wish an turned slept bl due v → (IsTrue (is_woken p) → slept ≡ true)
+    → Acquires wish an turned slept bl due (with_park v p)
+as_woken wish an turned slept bl due v p acq woken =
     record {
       awaited = acq.awaited;
       has = acq.has;
@@ -98,8 +98,9 @@ as_woken wish an slept bl one v p acq woken =
       owes_none = acq.owes_none;
       woken = woken;
       tries = acq.tries;
-      no_bar = acq.no_bar;
+      patient = acq.patient;
       writer = acq.writer;
+      reader = acq.reader;
     }
 
 -- at these stages a call waits to acquire, awake
@@ -114,19 +115,20 @@ waits_at other = false
 
 -- what a party that waits at a stage may be instead: with another park
 other_park : (st : Stage) (call : Call) (v : ParkView) (p : Park) (a : Action) → IsAt st call v a → waits_at st ≡ true → is_asleep p ≡ false
-    → (IsTrue (is_woken p) → call.slept ≡ true) → IsAt st call (with_park v p) a
-other_park stage.Look call v p a is w awake woken = ((as_woken call.want call.announced call.slept call.blocks (call.readers == 1) v p is.0.0 woken, awake), is.1)
-other_park stage.Try call v p a is w awake woken = ((as_woken call.want call.announced call.slept call.blocks (call.readers == 1) v p is.0.0 woken, awake), is.1, is.2)
-other_park stage.Pause call v p a is w awake woken = ((as_woken call.want call.announced call.slept call.blocks (call.readers == 1) v p is.0.0 woken, awake), is.1)
-other_park stage.Mark call v p a is w awake woken = ((as_woken call.want call.announced call.slept call.blocks (call.readers == 1) v p is.0.0 woken, awake), is.1, is.2, is.3, is.4)
+    → (IsTrue (is_woken p) → has_slept call ≡ true) → IsAt st call (with_park v p) a
+other_park stage.Look call v p a is w awake woken = ((as_woken call.want call.announced call.turned (has_slept call) call.blocks (is_due call) v p is.0.0 woken, awake), is.1)
+other_park stage.Try call v p a is w awake woken = ((as_woken call.want call.announced call.turned (has_slept call) call.blocks (is_due call) v p is.0.0 woken, awake), is.1, is.2)
+other_park stage.Pause call v p a is w awake woken = ((as_woken call.want call.announced call.turned (has_slept call) call.blocks (is_due call) v p is.0.0 woken, awake), is.1)
+other_park stage.Mark call v p a is w awake woken = ((as_woken call.want call.announced call.turned (has_slept call) call.blocks (is_due call) v p is.0.0 woken, awake), is.1, is.2, is.3, is.4)
 other_park stage.Sleep call v p a is w awake woken = absurd (false≢true w)
-other_park stage.Withdraw call v p a is w awake woken = ((as_woken call.want call.announced call.slept call.blocks (call.readers == 1) v p is.0.0 woken, awake), is.1, is.2)
-other_park stage.Leave call v p a is w awake woken = ((as_woken call.want call.announced call.slept call.blocks (call.readers == 1) v p is.0.0 woken, awake), is.1, is.2, is.3, is.4)
+other_park stage.Withdraw call v p a is w awake woken = ((as_woken call.want call.announced call.turned (has_slept call) call.blocks (is_due call) v p is.0.0 woken, awake), is.1, is.2, is.3, is.4)
+other_park stage.Leave call v p a is w awake woken = ((as_woken call.want call.announced call.turned (has_slept call) call.blocks (is_due call) v p is.0.0 woken, awake), is.1, is.2, is.3, is.4, is.5)
 other_park stage.Release call v p a is w awake woken = absurd (false≢true w)
 other_park stage.LookToRemove call v p a is w awake woken = absurd (false≢true w)
 other_park stage.Subtract call v p a is w awake woken = absurd (false≢true w)
 other_park stage.Wake call v p a is w awake woken = absurd (false≢true w)
 other_park stage.WakeRefused call v p a is w awake woken = absurd (false≢true w)
+other_park stage.WakeAcquired call v p a is w awake woken = absurd (false≢true w)
 other_park stage.Acquired call v p a is w awake woken = absurd (false≢true w)
 other_park stage.Refused call v p a is w awake woken = absurd (false≢true w)
 other_park stage.Ended call v p a is w awake woken = absurd (false≢true w)
@@ -134,14 +136,14 @@ other_park stage.Ended call v p a is w awake woken = absurd (false≢true w)
 sleeping_park : (call : Call) (v : ParkView) (p : Park) (a : Action) → IsAt stage.Sleep call v a → (IsTrue (is_asleep p) → p ≡ Asleep call.want)
     → IsAt stage.Sleep call (with_park v p) a
 sleeping_park call v p a is own =
-    (as_woken call.want call.announced true call.blocks (call.readers == 1) v p is.0 (λ w. refl), is.1, is.2, is.3, own, is.5, is.6)
+    (as_woken call.want call.announced call.turned true call.blocks (is_due call) v p is.0 (λ w. refl), is.1, is.2, is.3, own, is.5, is.6, is.7)
 
 -- a sleep owes nothing, and is no end
 pub quiet_sleep : (call : Call) → (debt_at (sleep_of call) ≡ debt.Nothing) × (ends (sleep_of call) ≡ false)
-quiet_sleep call = by (nat_lt call.readers (2 ^ 28))
+quiet_sleep call = by (nat_lt call.readers (2 ^ 27))
   where
-    by : (b : Bool) → (debt_at (if b then action.Park call.loaded (call.announced || is_upgrade call.want) else action.Yield) ≡ debt.Nothing)
-        × (ends (if b then action.Park call.loaded (call.announced || is_upgrade call.want) else action.Yield) ≡ false)
+    by : (b : Bool) → (debt_at (if b then action.Park call.loaded (class_of call.announced call.want) (is_brief call) else action.Yield) ≡ debt.Nothing)
+        × (ends (if b then action.Park call.loaded (class_of call.announced call.want) (is_brief call) else action.Yield) ≡ false)
     by true = (refl, refl)
     by false = (refl, refl)
 
@@ -153,17 +155,18 @@ owes_at stage.Pause call v a is = is.0.0.owes_none ∙ by a is.1
     by : (a : Action) → IsPause a → debt.Nothing ≡ debt_at a
     by action.Load h = absurd h
     by (action.Exchange x y) h = absurd h
-    by (action.Park n f) h = absurd h
+    by (action.Park n c b) h = absurd h
     by (action.Subtract d) h = absurd h
     by action.WakeOne h = absurd h
     by action.WakeAll h = absurd h
     by action.WakeNext h = absurd h
+    by action.WakeTurn h = absurd h
     by (action.Spin n) h = refl
     by action.Yield h = absurd h
     by (action.End b) h = absurd h
 owes_at stage.Mark call v a is = is.0.0.owes_none ∙ sym (ap debt_at is.4)
 owes_at stage.Sleep call v a is = is.0.owes_none ∙ sym (ap debt_at is.5 ∙ (quiet_sleep call).0)
-owes_at stage.Withdraw call v a is = is.0.0.owes_none ∙ sym (ap debt_at is.2)
+owes_at stage.Withdraw call v a is = is.0.0.owes_none ∙ sym (ap debt_at is.4)
 owes_at stage.Leave call v a is = is.0.0.owes_none ∙ sym (ap debt_at is.4)
 owes_at stage.Release call v a is = is.1.1 ∙ sym (ap debt_at is.2)
 owes_at stage.LookToRemove call v a is = is.1.1 ∙ sym (ap debt_at is.2)
@@ -175,14 +178,16 @@ owes_at stage.Wake call v a is = by v.debt is.1
     by debt.One h = sym (ap debt_at h)
     by debt.All h = sym (ap debt_at h)
     by debt.Next h = sym (ap debt_at h)
+    by debt.Turn h = sym (ap debt_at h)
 owes_at stage.WakeRefused call v a is = is.1 ∙ sym (ap debt_at is.2)
+owes_at stage.WakeAcquired call v a is = is.1 ∙ sym (ap debt_at is.2)
 owes_at stage.Acquired call v a is = is.0.1 ∙ sym (ap debt_at is.1)
 owes_at stage.Refused call v a is = is.0.1 ∙ sym (ap debt_at is.1)
 owes_at stage.Ended call v a is = is.0.1 ∙ sym (ap debt_at is.1)
 
 -- the view of the run is that of the law, or that one woken
 pub settled : (st : Stage) (call : Call) (you : ParkView) (a : Action) (park : Park) (h : Hold) → IsAt st call you a → you.held ≡ h
-    → (you.park ≡ park) ⊎ (you.park ≡ Awake) → is_asleep park ≡ false → (IsTrue (is_woken park) → call.slept ≡ true)
+    → (you.park ≡ park) ⊎ (you.park ≡ Awake) → is_asleep park ≡ false → (IsTrue (is_woken park) → has_slept call ≡ true)
     → Settled you record { held = h; park = park_at st park; debt = debt_at a } st call a
 settled st call you a park h is held parked awake woken = by st is
   where
@@ -229,6 +234,7 @@ settled st call you a park h is held parked awake woken = by st is
     by stage.Subtract is = done stage.Subtract is is.1.0
     by stage.Wake is = done stage.Wake is is.0
     by stage.WakeRefused is = done stage.WakeRefused is is.0
+    by stage.WakeAcquired is = done stage.WakeAcquired is is.0
     by stage.Acquired is = done stage.Acquired is is.0.0
     by stage.Refused is = done stage.Refused is is.0.0
     by stage.Ended is = done stage.Ended is is.0.0

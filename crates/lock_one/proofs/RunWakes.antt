@@ -16,8 +16,8 @@ use Rattle.lock_one.specs.declared.park.Park.{Park}
 use Rattle.lock_one.specs.declared.park.Park.TheVariants.{Awake, Asleep, Woken}
 use Rattle.lock_one.specs.declared.park.Debt.{Debt}
 use Rattle.lock_one.specs.declared.park.Debt.TheVariants as debt
-use Rattle.lock_one.specs.Rule.{is_asleep, is_next, wake_park_next, with_park, with_debt, wake_all, wake_next}
-use Rattle.lock_one.specs.Machine.{core_of, has_sleepers, next_at, next_of}
+use Rattle.lock_one.specs.Rule.{is_asleep, is_next, is_in_turn, wake_park_of, with_park, with_debt, wake_all, wake_of, wake_next, wake_turn}
+use Rattle.lock_one.specs.Machine.{core_of, has_turn, has_sleepers, next_at, next_of}
 use Rattle.lock_one.specs.Steps.{limits_of, hold_at, IsWake, IsAt, Keeps}
 use Rattle.lock_one.specs.Runs.{Underway, Thread, LockInUse, views_of, limits_in, goes_on, with_thread, view_to, any_asleep, paid, wake_at, wakes_by}
 use Rattle.lock_one.proofs.Parking.{each_step}
@@ -39,19 +39,19 @@ waking_all v = by v.park refl
     by (Asleep x) e = inr (ap is_asleep e, rw e refl)
     by Woken e = inl (rw e refl)
 
-waking_next : IsWaking wake_next
-waking_next v = by v.park refl
+waking_of : (test : ParkView → ExWant → Bool) → IsWaking (wake_of test)
+waking_of test v = by v.park refl
   where
     which : (b : Bool) (x : ExWant) → v.park ≡ Asleep x
         → (with_park v (if b then Woken else Asleep x) ≡ v) ⊎ ((is_asleep v.park ≡ true) × (with_park v (if b then Woken else Asleep x) ≡ with_park v Woken))
     which true x e = inr (ap is_asleep e, refl)
     which false x e = inl (sym (same_view v v.held (Asleep x) v.debt refl e refl))
 
-    by : (p : Park) → v.park ≡ p → (wake_next v ≡ v) ⊎ ((is_asleep v.park ≡ true) × (wake_next v ≡ with_park v Woken))
+    by : (p : Park) → v.park ≡ p → (wake_of test v ≡ v) ⊎ ((is_asleep v.park ≡ true) × (wake_of test v ≡ with_park v Woken))
     by Awake e = inl (rw e refl)
     by (Asleep x) e =
-        subst (λ p. (with_park v (wake_park_next v p) ≡ v) ⊎ ((is_asleep v.park ≡ true) × (with_park v (wake_park_next v p) ≡ with_park v Woken))) (sym e)
-        (which (is_next v x) x e)
+        subst (λ p. (with_park v (wake_park_of test v p) ≡ v) ⊎ ((is_asleep v.park ≡ true) × (with_park v (wake_park_of test v p) ≡ with_park v Woken))) (sym e)
+        (which (test v x) x e)
     by Woken e = inl (rw e refl)
 
 -- a sleeper is at its park
@@ -68,6 +68,7 @@ woken_place stage.LookToRemove call v a is h = absurd (true≢false (sym h ∙ a
 woken_place stage.Subtract call v a is h = absurd (true≢false (sym h ∙ ap is_asleep is.1.0))
 woken_place stage.Wake call v a is h = absurd (true≢false (sym h ∙ ap is_asleep is.0))
 woken_place stage.WakeRefused call v a is h = absurd (true≢false (sym h ∙ ap is_asleep is.0))
+woken_place stage.WakeAcquired call v a is h = absurd (true≢false (sym h ∙ ap is_asleep is.0))
 woken_place stage.Acquired call v a is h = absurd (true≢false (sym h ∙ ap is_asleep is.0.0))
 woken_place stage.Refused call v a is h = absurd (true≢false (sym h ∙ ap is_asleep is.0.0))
 woken_place stage.Ended call v a is h = absurd (true≢false (sym h ∙ ap is_asleep is.0.0))
@@ -83,7 +84,7 @@ placed_after f waking limits v u place =
       | inr woken ↦ subst (λ w. IsPlaced limits w u) (sym woken.1) (still_placed limits v u place woken.0)
     ]
 
-views_map : (f : ParkView → ParkView) (ts : List Thread) → views_of (map (view_to f) ts) ≡ map f (views_of ts)
+pub views_map : (f : ParkView → ParkView) (ts : List Thread) → views_of (map (view_to f) ts) ≡ map f (views_of ts)
 views_map f [] = refl
 views_map f (t ∷ ts) = ap (λ vs. f t.view ∷ vs) (views_map f ts)
 
@@ -156,7 +157,7 @@ one_woken s k j t u o at at_j is held lock clean wakes run = by o at_j
         let done = sleeps_keep_the_rule.wakes_one s.word (views_of s.threads) k j t.view w.view u.at.0 for.0 range keeps (view_in s.threads k t at) is
         (view_in s.threads j w is_w) for.1 in
         let x = view_to (λ v. with_park v Woken) w in
-        let step = (each_step (limits_of u.at.0) (core_of s.word) (has_sleepers s.word) (views_of s.threads) j w.view range keeps.kept (view_in s.threads j w is_w)).wakes in
+        let step = (each_step (limits_of u.at.0) (core_of s.word) (has_turn s.word) (has_sleepers s.word) (views_of s.threads) j w.view range keeps.kept (view_in s.threads j w is_w)).wakes in
         let mid = one_changed s s.word j x run
         (subst (λ l. Keeps l s.word (slice_set (views_of s.threads) j x.view)) lock record { small = keeps.small; kept = step })
         (still_placed (limits_in s.readers) w.view w.underway (run.each j w is_w) asleep) in
@@ -192,17 +193,18 @@ wake_kept s k j t u a at is held lock clean wakes run = by a is
         subst (λ n. IsPlaced (limits_in s.readers) v (goes_on n u.before)) (sym (ap (λ st. next_at st 0 u.at.0) wakes))
         (goes_or_rests (limits_in s.readers) (next_at stage.Wake 0 u.at.0) u.before v ended (same ∙ held) lock clean)
 
-    never : (a : Action) (d : Debt) → IsWake d a → (a ≡ action.WakeOne → ⊥) → (a ≡ action.WakeAll → ⊥) → (a ≡ action.WakeNext → ⊥) → ⊥
-    never a debt.Nothing h x y z = h
-    never a debt.One h x y z = x h
-    never a debt.All h x y z = y h
-    never a debt.Next h x y z = z h
+    never : (a : Action) (d : Debt) → IsWake d a → (a ≡ action.WakeOne → ⊥) → (a ≡ action.WakeAll → ⊥) → (a ≡ action.WakeNext → ⊥) → (a ≡ action.WakeTurn → ⊥) → ⊥
+    never a debt.Nothing h x y z w = h
+    never a debt.One h x y z w = x h
+    never a debt.All h x y z w = y h
+    never a debt.Next h x y z w = z h
+    never a debt.Turn h x y z w = w h
 
     by : (a : Action) → IsAt stage.Wake u.at.0 t.view a → RunKept (wakes_by s k j t u a)
-    by action.Load is = absurd (never action.Load t.view.debt is.1 (λ e. cc) (λ e. cc) (λ e. cc))
-    by (action.Exchange x y) is = absurd (never (action.Exchange x y) t.view.debt is.1 (λ e. cc) (λ e. cc) (λ e. cc))
-    by (action.Park n f) is = absurd (never (action.Park n f) t.view.debt is.1 (λ e. cc) (λ e. cc) (λ e. cc))
-    by (action.Subtract d) is = absurd (never (action.Subtract d) t.view.debt is.1 (λ e. cc) (λ e. cc) (λ e. cc))
+    by action.Load is = absurd (never action.Load t.view.debt is.1 (λ e. cc) (λ e. cc) (λ e. cc) (λ e. cc))
+    by (action.Exchange x y) is = absurd (never (action.Exchange x y) t.view.debt is.1 (λ e. cc) (λ e. cc) (λ e. cc) (λ e. cc))
+    by (action.Park n c b) is = absurd (never (action.Park n c b) t.view.debt is.1 (λ e. cc) (λ e. cc) (λ e. cc) (λ e. cc))
+    by (action.Subtract d) is = absurd (never (action.Subtract d) t.view.debt is.1 (λ e. cc) (λ e. cc) (λ e. cc) (λ e. cc))
     by action.WakeOne is = one_woken s k j t u (slice_get s.threads j) at refl is held lock clean wakes run
     by action.WakeAll is =
         let done = sleeps_keep_the_rule.wakes_all s.word (views_of s.threads) k t.view u.at.0 range keeps (view_in s.threads k t at) is in
@@ -211,12 +213,17 @@ wake_kept s k j t u a at is held lock clean wakes run = by a is
         (place (with_debt (wake_all t.view) debt.Nothing) refl done.1)
     by action.WakeNext is =
         let done = sleeps_keep_the_rule.wakes_next s.word (views_of s.threads) k t.view u.at.0 range keeps (view_in s.threads k t at) is in
-        many_woken wake_next waking_next s k t u run
+        many_woken wake_next (waking_of is_next) s k t u run
         (subst (λ l. Keeps l s.word (slice_set (map wake_next (views_of s.threads)) k (with_debt (wake_next t.view) debt.Nothing))) lock done.0)
         (place (with_debt (wake_next t.view) debt.Nothing) refl done.1)
-    by (action.Spin n) is = absurd (never (action.Spin n) t.view.debt is.1 (λ e. cc) (λ e. cc) (λ e. cc))
-    by action.Yield is = absurd (never action.Yield t.view.debt is.1 (λ e. cc) (λ e. cc) (λ e. cc))
-    by (action.End b) is = absurd (never (action.End b) t.view.debt is.1 (λ e. cc) (λ e. cc) (λ e. cc))
+    by action.WakeTurn is =
+        let done = sleeps_keep_the_rule.wakes_turn s.word (views_of s.threads) k t.view u.at.0 range keeps (view_in s.threads k t at) is in
+        many_woken wake_turn (waking_of is_in_turn) s k t u run
+        (subst (λ l. Keeps l s.word (slice_set (map wake_turn (views_of s.threads)) k (with_debt (wake_turn t.view) debt.Nothing))) lock done.0)
+        (place (with_debt (wake_turn t.view) debt.Nothing) refl done.1)
+    by (action.Spin n) is = absurd (never (action.Spin n) t.view.debt is.1 (λ e. cc) (λ e. cc) (λ e. cc) (λ e. cc))
+    by action.Yield is = absurd (never action.Yield t.view.debt is.1 (λ e. cc) (λ e. cc) (λ e. cc) (λ e. cc))
+    by (action.End b) is = absurd (never (action.End b) t.view.debt is.1 (λ e. cc) (λ e. cc) (λ e. cc) (λ e. cc))
 
 pub refused_kept : (s : LockInUse) (k j : ℕ) (t : Thread) (u : Underway) → slice_get s.threads k ≡ Some t
     → IsAt stage.WakeRefused u.at.0 t.view u.at.1 → t.view.held ≡ hold_at stage.WakeRefused u.at.0 u.before → limits_of u.at.0 ≡ limits_in s.readers → u.before.announced ≡ false
@@ -231,3 +238,17 @@ refused_kept s k j t u at is held lock clean wakes run =
     (subst (λ l. Keeps l s.word (slice_set (map wake_all (views_of s.threads)) k v)) lock done.0)
     (subst (λ n. IsPlaced (limits_in s.readers) v (goes_on n u.before)) (sym (ap (λ st. next_at st 0 u.at.0) wakes))
     (goes_or_rests (limits_in s.readers) (next_at stage.WakeRefused 0 u.at.0) u.before v done.1 held lock clean)))
+
+pub acquired_kept : (s : LockInUse) (k j : ℕ) (t : Thread) (u : Underway) → slice_get s.threads k ≡ Some t
+    → IsAt stage.WakeAcquired u.at.0 t.view u.at.1 → t.view.held ≡ hold_at stage.WakeAcquired u.at.0 u.before → limits_of u.at.0 ≡ limits_in s.readers → u.before.announced ≡ false
+    → u.at.0.stage ≡ stage.WakeAcquired → RunKept s → RunKept (wakes_by s k j t u u.at.1)
+acquired_kept s k j t u at is held lock clean wakes run =
+    let range : IsLimit u.at.0.readers = subst (λ (l : ParkLimits). IsLimit l.readers) (sym lock) run.range in
+    let keeps : Keeps (limits_of u.at.0) s.word (views_of s.threads) = subst (λ l. Keeps l s.word (views_of s.threads)) (sym lock) run.keeps in
+    let v = with_debt (wake_all t.view) debt.Nothing in
+    let done = sleeps_keep_the_rule.wakes_all_acquired s.word (views_of s.threads) k t.view u.at.0 range keeps (view_in s.threads k t at) (is.0, is.1, refl, is.3) in
+    subst (λ a. RunKept (wakes_by s k j t u a)) (sym is.2)
+    (many_woken wake_all waking_all s k t u run
+    (subst (λ l. Keeps l s.word (slice_set (map wake_all (views_of s.threads)) k v)) lock done.0)
+    (subst (λ n. IsPlaced (limits_in s.readers) v (goes_on n u.before)) (sym (ap (λ st. next_at st 0 u.at.0) wakes))
+    (goes_or_rests (limits_in s.readers) (next_at stage.WakeAcquired 0 u.at.0) u.before v done.1 held lock clean)))

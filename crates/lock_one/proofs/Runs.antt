@@ -1,6 +1,6 @@
 -- Runs keep the rule.
-use Rattle.std.proofs.Common.{◌≡◌, ℕ, Bool, true, false, ◌||◌, ◌^◌, nat_lt, if◌then◌else◌, inl, inr, List, [], ◌∷◌, ◌++◌, slice_get, Option, Some, None, refl, sym, ap, subst, ◌∙◌, arith, eqb-true}
-use Rattle.std.proofs.lemmas.Bool.{true≢false}
+use Rattle.std.proofs.Common.{◌≡◌, ℕ, Bool, true, false, ◌^◌, nat_lt, if◌then◌else◌, inl, inr, List, [], ◌∷◌, ◌++◌, slice_get, Option, Some, None, refl, sym, ap, subst, ◌∙◌, arith, eqb-true}
+use Rattle.std.proofs.lemmas.Bool.{false≢true, true≢false}
 use Rattle.std.proofs.lemmas.List.{map-append}
 use Rattle.lock_modes.specs.declared.hold.Hold.{Hold}
 use Rattle.lock_modes.specs.Limits.{IsLimit}
@@ -17,20 +17,21 @@ use Rattle.lock_one.specs.declared.stage.Stage.TheVariants as stage
 use Rattle.lock_one.specs.declared.park.ParkLimits.{ParkLimits}
 use Rattle.lock_one.specs.declared.park.ParkView.{ParkView}
 use Rattle.lock_one.specs.declared.park.Park.TheVariants.{Asleep}
-use Rattle.lock_one.specs.Rule.{holds_of, is_asleep, is_upgrade, KeepsParking, new_party}
-use Rattle.lock_one.specs.Machine.{core_of, has_sleepers}
+use Rattle.lock_one.specs.declared.action.Sleeper.{Sleeper}
+use Rattle.lock_one.specs.Rule.{holds_of, is_asleep, KeepsParking, new_party}
+use Rattle.lock_one.specs.Machine.{core_of, has_turn, has_sleepers, class_of, is_brief, is_due}
 use Rattle.lock_one.specs.Steps.{ends, hold_at, IsAt, is_step, Keeps}
-use Rattle.lock_one.specs.Runs.{Underway, Thread, LockInUse, views_of, limits_in, new_thread, new_lock, Act, join, acquires, releases, steps, steps_by, step_at, step_in, step_by, after_act, after_acts, IsInPark, ThreadsAreServed, EveryRunIsServed}
+use Rattle.lock_one.specs.Runs.{Underway, Thread, LockInUse, views_of, limits_in, new_thread, new_lock, Act, join, acquires, releases, steps, steps_by, step_at, step_in, step_by, after_act, after_acts, IsInPark}
 use Rattle.lock_one.proofs.Parking.{parties_of, rule_of, holds_of_parties, sums_of, starts}
-use Rattle.lock_one.proofs.RunViews.{IsPlaced, RunKept, owes_at}
-use Rattle.lock_one.proofs.RunActs.{acquire_kept, release_kept, step_kept, awake_at, park_kept}
-use Rattle.lock_one.proofs.RunWakes.{wake_kept, refused_kept}
+use Rattle.lock_one.proofs.RunViews.{IsPlaced, RunKept}
+use Rattle.lock_one.proofs.RunActs.{bare_after, acquire_kept, release_kept, step_kept, awake_at, park_kept}
+use Rattle.lock_one.proofs.RunWakes.{wake_kept, refused_kept, acquired_kept}
 
 -- a thread that joins
 
-pub joined : (limits : ParkLimits) (core : ℕ) (b : Bool) (views : List ParkView) → KeepsParking limits core b views
-    → KeepsParking limits core b (views ++ new_party ∷ [])
-joined limits core b views kept =
+pub joined : (limits : ParkLimits) (core : ℕ) (t s : Bool) (views : List ParkView) → KeepsParking limits core t s views
+    → KeepsParking limits core t s (views ++ new_party ∷ [])
+joined limits core t s views kept =
     let longer : holds (parties_of views ++ idle ∷ []) ≡ holds_of (views ++ new_party ∷ [])
     = map-append (λ (q : WorldParty). q.held) (parties_of views) (idle ∷ [])
     ∙ (ap (λ hs. hs ++ no_hold ∷ []) (holds_of_parties views) ∙ sym (map-append (λ (v : ParkView). v.held) views (new_party ∷ []))) in
@@ -40,7 +41,7 @@ joined limits core b views kept =
       coded = total.coded;
       legal = total.legal;
       one_token = kept.one_token;
-      no_bar = kept.no_bar;
+      no_turn = kept.no_turn;
       entitled = λ k v want is asleep.
           elim (element_of_longer views new_party v k is) [
             | inl old ↦ kept.entitled k v want old asleep
@@ -71,7 +72,7 @@ joins s run =
       range = run.range;
       keeps =
           subst (λ vs. Keeps (limits_in s.readers) s.word vs) (sym (map-append (λ (t : Thread). t.view) s.threads (new_thread ∷ [])))
-          record { small = run.keeps.small; kept = joined (limits_in s.readers) (core_of s.word) (has_sleepers s.word) (views_of s.threads) run.keeps.kept };
+          record { small = run.keeps.small; kept = joined (limits_in s.readers) (core_of s.word) (has_turn s.word) (has_sleepers s.word) (views_of s.threads) run.keeps.kept };
       each = λ k t is.
           elim (element_of_longer s.threads new_thread t k is) [
             | inl old ↦ run.each k t old
@@ -105,6 +106,7 @@ stepped s k given j t at run = by t.underway refl (run.each k t at)
     at_stage stage.Subtract u e calls place is held = on u calls place (ap is_step e)
     at_stage stage.Wake u e calls place is held = wake_kept s k j t u u.at.1 at is held place.2 place.4 e run
     at_stage stage.WakeRefused u e calls place is held = refused_kept s k j t u at is held place.2 place.4 e run
+    at_stage stage.WakeAcquired u e calls place is held = acquired_kept s k j t u at is held place.2 place.4 e run
     at_stage stage.Acquired u e calls place is held = over u true place is.1
     at_stage stage.Refused u e calls place is held = over u false place is.1
     at_stage stage.Ended u e calls place is held = over u true place is.1
@@ -117,17 +119,17 @@ step_by_kept : (s : LockInUse) (k given j : ℕ) (o : Option Thread) → slice_g
 step_by_kept s k given j None at run = run
 step_by_kept s k given j (Some t) at run = stepped s k given j t at run
 
-act_kept : (s : LockInUse) (a : Act) → RunKept s → RunKept (after_act s a)
+pub act_kept : (s : LockInUse) (a : Act) → RunKept s → RunKept (after_act s a)
 act_kept s join run = joins s run
 act_kept s (acquires k want blocks announces) run = acquire_kept s k want blocks announces (slice_get s.threads k) refl run
 act_kept s (releases k down) run = release_kept s k down (slice_get s.threads k) refl run
 act_kept s (steps k given j) run = step_by_kept s k given j (slice_get s.threads k) refl run
 
-acts_kept : (s : LockInUse) (acts : List Act) → RunKept s → RunKept (after_acts s acts)
+pub acts_kept : (s : LockInUse) (acts : List Act) → RunKept s → RunKept (after_acts s acts)
 acts_kept s [] run = run
 acts_kept s (a ∷ acts) run = acts_kept (after_act s a) acts (act_kept s a run)
 
-new_kept : (readers : ℕ) → IsLimit readers → RunKept (new_lock readers)
+pub new_kept : (readers : ℕ) → IsLimit readers → RunKept (new_lock readers)
 new_kept readers range =
     record {
       range = range;
@@ -139,9 +141,9 @@ new_kept readers range =
           ];
     }
 
-parked_as : (few : Bool) (n m : ℕ) (p q : Bool) → action.Park n p ≡ (if few then action.Park m q else action.Yield) → (n ≡ m) × (p ≡ q)
-parked_as true n m p q e = (cc, cc)
-parked_as false n m p q e = cc
+parked_as : (few : Bool) (n m : ℕ) (p q : Sleeper) (b c : Bool) → action.Park n p b ≡ (if few then action.Park m q c else action.Yield) → (n ≡ m) × (p ≡ q) × (b ≡ c)
+parked_as true n m p q b c e = (cc, cc, cc)
+parked_as false n m p q b c e = cc
 
 -- each sleeper is in its park
 in_park : (limits : ParkLimits) (t : Thread) → IsPlaced limits t.view t.underway → is_asleep t.view.park ≡ true → IsInPark t
@@ -159,10 +161,11 @@ in_park limits t place asleep = by t.underway refl place
       sleeps = e;
       wants = is.4 asleep;
       marked = is.3;
-      parks = λ number passes asks.
-          let same = parked_as (nat_lt u.at.0.readers (2 ^ 28)) number u.at.0.loaded passes (u.at.0.announced || is_upgrade u.at.0.want) (sym asks ∙ is.5) in
-          (same.0, same.1 ∙ ap (λ a. a || is_upgrade u.at.0.want) (sym (ap (λ (h : Hold). h.announced) (held ∙ ap (λ x. hold_at x u.at.0 u.before) e))));
+      parks = λ number class brief asks.
+          let same = parked_as (nat_lt u.at.0.readers (2 ^ 27)) number u.at.0.loaded class (class_of u.at.0.announced u.at.0.want) brief (is_brief u.at.0) (sym asks ∙ is.5) in
+          (same.0, same.1 ∙ ap (λ a. class_of a u.at.0.want) is.0.bar, same.2);
       barred = is.6;
+      turned = is.7;
     }
     at_stage stage.Withdraw u held e calls is = absurd (true≢false (sym asleep ∙ is.0.1))
     at_stage stage.Leave u held e calls is = absurd (true≢false (sym asleep ∙ is.0.1))
@@ -171,6 +174,7 @@ in_park limits t place asleep = by t.underway refl place
     at_stage stage.Subtract u held e calls is = absurd (true≢false (sym asleep ∙ ap is_asleep is.1.0))
     at_stage stage.Wake u held e calls is = absurd (true≢false (sym asleep ∙ ap is_asleep is.0))
     at_stage stage.WakeRefused u held e calls is = absurd (true≢false (sym asleep ∙ ap is_asleep is.0))
+    at_stage stage.WakeAcquired u held e calls is = absurd (true≢false (sym asleep ∙ ap is_asleep is.0))
     at_stage stage.Acquired u held e calls is = absurd (true≢false (sym asleep ∙ ap is_asleep is.0.0))
     at_stage stage.Refused u held e calls is = absurd (true≢false (sym asleep ∙ ap is_asleep is.0.0))
     at_stage stage.Ended u held e calls is = absurd (true≢false (sym asleep ∙ ap is_asleep is.0.0))
@@ -179,24 +183,35 @@ in_park limits t place asleep = by t.underway refl place
     by None e place = absurd (true≢false (sym asleep ∙ ap is_asleep place.0.0))
     by (Some u) e place = at_stage u.at.0.stage u place.1 refl e place.0
 
-served : (s : LockInUse) → RunKept s → ThreadsAreServed s
-served s run =
-    record {
-      range = run.range;
-      small = run.keeps.small;
-      no_bar = run.keeps.kept.no_bar;
-      entitled = run.keeps.kept.entitled;
-      coded = run.keeps.kept.coded;
-      legal = run.keeps.kept.legal;
-      none_forgotten = run.keeps.kept.none_forgotten;
-      parked = λ k t is asleep. in_park (limits_in s.readers) t (run.each k t is) asleep;
-      no_bar_left = λ k t is calls.
-          let place : IsPlaced (limits_in s.readers) t.view None = subst (λ o. IsPlaced (limits_in s.readers) t.view o) calls (run.each k t is) in
-          place.1;
-      owed = λ k t u is calls.
-          let place : IsPlaced (limits_in s.readers) t.view (Some u) = subst (λ o. IsPlaced (limits_in s.readers) t.view o) calls (run.each k t is) in
-          owes_at u.at.0.stage u.at.0 t.view u.at.1 place.0;
-    }
+-- a call that has set the bar was due to
+due_at : (st : Stage) (u : Underway) (v : ParkView) → IsAt st u.at.0 v u.at.1 → v.held ≡ hold_at st u.at.0 u.before → u.before.announced ≡ false
+    → v.held.announced ≡ true → is_due u.at.0 ≡ true
+due_at st u v is held clean own = by st is (ap (λ (h : Hold). h.announced) (sym held) ∙ own)
+  where
+    by : (st : Stage) → IsAt st u.at.0 v u.at.1 → (hold_at st u.at.0 u.before).announced ≡ true → is_due u.at.0 ≡ true
+    by stage.Look is bar = is.0.0.patient (is.0.0.bar ∙ own)
+    by stage.Try is bar = is.0.0.patient (is.0.0.bar ∙ own)
+    by stage.Pause is bar = is.0.0.patient (is.0.0.bar ∙ own)
+    by stage.Mark is bar = is.0.0.patient (is.0.0.bar ∙ own)
+    by stage.Sleep is bar = is.0.patient (is.0.bar ∙ own)
+    by stage.Withdraw is bar = is.0.0.patient (is.0.0.bar ∙ own)
+    by stage.Leave is bar = is.0.0.patient (is.0.0.bar ∙ own)
+    by stage.LookToRemove is bar = absurd (false≢true (sym clean ∙ bar))
+    by stage.Subtract is bar = absurd (false≢true (sym clean ∙ bar))
+    by stage.Release is bar = absurd (false≢true (sym clean ∙ bar))
+    by stage.Wake is bar = absurd (false≢true (sym (bare_after u.before clean u.at.0.down) ∙ bar))
+    by stage.WakeRefused is bar = absurd (false≢true bar)
+    by stage.WakeAcquired is bar = absurd (false≢true (sym is.3 ∙ own))
+    by stage.Acquired is bar = absurd (false≢true (sym is.2 ∙ own))
+    by stage.Refused is bar = absurd (false≢true bar)
+    by stage.Ended is bar = absurd (false≢true (sym (bare_after u.before clean u.at.0.down) ∙ bar))
 
-pub every_run_is_served : EveryRunIsServed
-every_run_is_served readers acts range = served (after_acts (new_lock readers) acts) (acts_kept (new_lock readers) acts (new_kept readers range))
+-- each sleeper is in its park, and a call with a bar was due
+pub sleeper_in_park : (s : LockInUse) → RunKept s → (k : ℕ) (t : Thread) → slice_get s.threads k ≡ Some t → is_asleep t.view.park ≡ true → IsInPark t
+sleeper_in_park s run k t is asleep = in_park (limits_in s.readers) t (run.each k t is) asleep
+
+pub barred_was_due : (s : LockInUse) → RunKept s → (k : ℕ) (t : Thread) (u : Underway) → slice_get s.threads k ≡ Some t → t.underway ≡ Some u
+    → t.view.held.announced ≡ true → is_due u.at.0 ≡ true
+barred_was_due s run k t u is calls own =
+    let place : IsPlaced (limits_in s.readers) t.view (Some u) = subst (λ o. IsPlaced (limits_in s.readers) t.view o) calls (run.each k t is) in
+    due_at u.at.0.stage u t.view place.0 place.1 place.4 own

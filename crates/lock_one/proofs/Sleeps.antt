@@ -1,8 +1,9 @@
 -- Sleeps and wake-ups keep the rule.
-use Rattle.std.proofs.Common.{◌≡◌, ◌≢◌, ℕ, not, ◌^◌, Bool, true, false, ◌&&◌, inl, inr, List, map, slice_get, slice_set, Some, IsTrue, refl, sym, ap, subst, ◌∙◌, lt-ltb}
-use Rattle.std.proofs.lemmas.Bool.{false≢true, true≢false, cases_lt, or_cases}
+use Rattle.std.proofs.Common.{◌≡◌, ◌≢◌, ℕ, not, ◌+◌, ◌%◌, ◌^◌, Bool, true, false, ◌&&◌, ◌||◌, ◌==◌, nat_lt, if◌then◌else◌, inl, inr, List, map, slice_get, slice_set, Some, IsTrue, refl, sym, ap, subst, ◌∙◌, arith, eqb-true, lt-ltb}
+use Rattle.std.proofs.lemmas.Bool.{false≢true, true≢false, cases_lt, cases_Bool, or_cases, or_right, false_from_ne_true}
 use Rattle.std.proofs.lemmas.Option.{same_Some}
 use Rattle.lock_modes.specs.Limits.{IsLimit}
+use Rattle.lock_word.specs.declared.want.ExWant.{ExWant}
 use Rattle.lock_word.specs.Word.{word_admits}
 use Rattle.lock_word.proofs.Lists.{placed, other_stays}
 use Rattle.lock_one.specs.declared.action.Action.{Action}
@@ -14,19 +15,66 @@ use Rattle.lock_one.specs.declared.park.Park.{Park}
 use Rattle.lock_one.specs.declared.park.Park.TheVariants.{Awake, Asleep, Woken}
 use Rattle.lock_one.specs.declared.park.Debt.{Debt}
 use Rattle.lock_one.specs.declared.park.Debt.TheVariants as debt
-use Rattle.lock_one.specs.Rule.{is_woken, is_asleep, has_duty, reaches, admits_to, KeepsParking, EachStepKeeps, with_park, with_debt, wake_all, wake_next}
-use Rattle.lock_one.specs.Machine.{core_of, has_sleepers, wakes_one, next_at}
-use Rattle.lock_one.specs.Steps.{limits_of, IsWake, IsAt, Keeps, SleepsKeepTheRule, NobodyIsForgotten}
-use Rattle.lock_one.proofs.Parking.{each_step, mutex_refuses, others_admit}
-use Rattle.lock_one.proofs.Steps.{refused_is_taken}
+use Rattle.lock_one.specs.Rule.{passes_turn, is_woken, is_asleep, is_next, is_in_turn, has_duty, reaches, admits_to, IsRefused, KeepsParking, EachStepKeeps, with_park, with_debt, wake_park_of, wake_all, wake_of, wake_next, wake_turn}
+use Rattle.lock_one.specs.Machine.{core_of, has_turn, has_sleepers, wakes_one, is_due, is_brief, one_more_sleep, sleeps_after, next_at}
+use Rattle.lock_one.specs.Steps.{limits_of, Acquires, Acquiring, IsWake, IsAt, Keeps, SleepsKeepTheRule, NobodyIsForgotten}
+use Rattle.lock_one.proofs.Parking.{each_step, duty_serves, held_refuses, mutex_refuses, others_admit}
+use Rattle.lock_one.proofs.Steps.{refused_is_taken, refused_is_held, refusal_of}
 
 refused_to : (call : Call) (core : ℕ) (v : ParkView) → call.announced ≡ v.held.announced → word_admits call.announced call.readers core call.want ≡ false
-    → (IsTrue (wakes_one call) → core ≢ 0) → admits_to (limits_of call) core v call.want ≡ false
-refused_to call core v bar refuses taken = by (wakes_one call) refl
+    → (IsTrue (wakes_one call) → core ≢ 0) → (call.announced ≡ true → core % 2 ^ 34 ≢ 0) → admits_to (limits_of call) core v call.want ≡ false
+refused_to call core v bar refuses taken held = by (wakes_one call) refl
   where
     by : (b : Bool) → wakes_one call ≡ b → admits_to (limits_of call) core v call.want ≡ false
-    by true e = mutex_refuses (limits_of call) core v call.want e (taken e)
+    by true e =
+        elim (cases_Bool v.held.announced) [
+          | inl own ↦ held_refuses (limits_of call) core v call.want e (held (bar ∙ own))
+          | inr bare ↦ mutex_refuses (limits_of call) core v call.want e bare (taken e)
+        ]
     by false e = others_admit (limits_of call) core v call.want e ∙ subst (λ a. word_admits a call.readers core call.want ≡ false) bar refuses
+
+-- the end of a sleep
+
+slept_more : (n : ℕ) → not (one_more_sleep n == 0) ≡ true
+slept_more n = ap not (false_from_ne_true (one_more_sleep n == 0) (λ e. by (nat_lt n 4) refl (eqb-true (one_more_sleep n) 0 e)))
+  where
+    by : (b : Bool) → nat_lt n 4 ≡ b → (if b then n + 1 else n) ≡ 0 → ⊥
+    by true low e = omega arith
+    by false high e = true≢false (sym (lt-ltb n 4 (omega arith)) ∙ high)
+
+-- of a sleep with any answer
+slept_after : (found : ℕ) (call : Call) → not (sleeps_after found call == 0) ≡ true
+slept_after found call = by ((found == 2) && is_brief call)
+  where
+    by : (b : Bool) → not ((if b then 4 else one_more_sleep call.sleeps) == 0) ≡ true
+    by true = refl
+    by false = slept_more call.sleeps
+
+due_more : (one : Bool) (n : ℕ) → (not one || (n == 4)) ≡ true → (not one || (one_more_sleep n == 4)) ≡ true
+due_more false n due = refl
+due_more true n due = let is : n ≡ 4 = eqb-true n 4 due in subst (λ m. (one_more_sleep m == 4) ≡ true) (sym is) refl
+
+due_after : (found : ℕ) (call : Call) → is_due call ≡ true → (not (wakes_one call) || (sleeps_after found call == 4)) ≡ true
+due_after found call due = by ((found == 2) && is_brief call)
+  where
+    by : (b : Bool) → (not (wakes_one call) || ((if b then 4 else one_more_sleep call.sleeps) == 4)) ≡ true
+    by true = or_right (not (wakes_one call)) true refl
+    by false = due_more (wakes_one call) call.sleeps due
+
+pub after_sleep : (call : Call) (answer : ℕ) (v : ParkView) (park : Park) → Acquires call.want call.announced call.turned true call.blocks (is_due call) v
+    → call.blocks ≡ true → Acquiring (next_at stage.Sleep answer call).0 (with_park v park)
+after_sleep call answer v park acq blocks =
+    record {
+      awaited = acq.awaited;
+      has = acq.has;
+      bar = acq.bar;
+      owes_none = acq.owes_none;
+      woken = λ w. slept_after answer call;
+      tries = λ b. absurd (true≢false (sym blocks ∙ b));
+      patient = λ own. due_after answer call (acq.patient own);
+      writer = acq.writer;
+      reader = acq.reader;
+    }
 
 debt_of : (d : Debt) (a : Action) → IsWake d a → Debt
 debt_of d a h = d
@@ -36,28 +84,38 @@ owes_all debt.Nothing h = absurd h
 owes_all debt.One h = cc
 owes_all debt.All h = refl
 owes_all debt.Next h = cc
+owes_all debt.Turn h = cc
 
 owes_next : (d : Debt) → IsWake d action.WakeNext → d ≡ debt.Next
 owes_next debt.Nothing h = absurd h
 owes_next debt.One h = cc
 owes_next debt.All h = cc
 owes_next debt.Next h = refl
+owes_next debt.Turn h = cc
+
+owes_turn : (d : Debt) → IsWake d action.WakeTurn → d ≡ debt.Turn
+owes_turn debt.Nothing h = absurd h
+owes_turn debt.One h = cc
+owes_turn debt.All h = cc
+owes_turn debt.Next h = cc
+owes_turn debt.Turn h = refl
 
 owes_one : (d : Debt) → IsWake d action.WakeOne → d ≡ debt.One
 owes_one debt.Nothing h = absurd h
 owes_one debt.One h = refl
 owes_one debt.All h = cc
 owes_one debt.Next h = cc
+owes_one debt.Turn h = cc
 
 all_awake : (park : Park) → park ≡ Awake → (wake_all_park : Park) → wake_all_park ≡ park → wake_all_park ≡ Awake
 all_awake park e w same = same ∙ e
 
 module _ (word : ℕ) (views : List ParkView) (k : ℕ) (me : ParkView) (call : Call) (range : IsLimit call.readers)
     (keeps : Keeps (limits_of call) word views) (at : slice_get views k ≡ Some me) where
-  step : EachStepKeeps (limits_of call) (core_of word) (has_sleepers word) views k me
-  step = each_step (limits_of call) (core_of word) (has_sleepers word) views k me range keeps.kept at
+  step : EachStepKeeps (limits_of call) (core_of word) (has_turn word) (has_sleepers word) views k me
+  step = each_step (limits_of call) (core_of word) (has_turn word) (has_sleepers word) views k me range keeps.kept at
 
-  as_kept : (later : List ParkView) → KeepsParking (limits_of call) (core_of word) (has_sleepers word) later → Keeps (limits_of call) word later
+  as_kept : (later : List ParkView) → KeepsParking (limits_of call) (core_of word) (has_turn word) (has_sleepers word) later → Keeps (limits_of call) word later
   as_kept later kept = record { small = keeps.small; kept = kept }
 
   idle : me.park ≡ Awake → has_duty (limits_of call) me ≡ false
@@ -73,9 +131,17 @@ falls_asleep : (views : List ParkView) (k : ℕ) (me : ParkView) (call : Call) (
     × IsAt stage.Sleep call (with_park me (Asleep call.want)) a
 falls_asleep views k me call a range keeps at is =
     let acq = is.0 in
-    let taken : IsTrue (wakes_one call) → core_of call.loaded ≢ 0
-    = λ one. refused_is_taken (limits_of call) (core_of call.loaded) (has_sleepers call.loaded) views k me call.want range keeps.kept at acq.awaited acq.has call.announced is.1 in
-    let refuses = refused_to call (core_of call.loaded) me acq.bar is.1 taken in (
+    let core = core_of call.loaded in
+    let bare : word_admits call.announced call.readers core call.want ≡ false → IsRefused (limits_of call) core (has_turn call.loaded) me call.want
+    = λ refuses.
+    inl (refused_to call core me acq.bar refuses
+    (λ one. refused_is_taken (limits_of call) core (has_turn call.loaded) (has_sleepers call.loaded) views k me call.want range keeps.kept at acq.awaited acq.has call.announced refuses)
+    (λ own. refused_is_held call core (omega arith) own acq.writer refuses)) in
+    let refuses : IsRefused (limits_of call) core (has_turn call.loaded) me call.want
+    = elim (refusal_of call.announced call.readers call.loaded call.want is.1) [
+      | inl core_does ↦ bare core_does
+      | inr turn ↦ inr (turn.0, subst (λ a. passes_turn a call.want ≡ false) acq.bar turn.1)
+    ] in (
       as_kept call.loaded views k me call range keeps at (slice_set views k (with_park me (Asleep call.want)))
           ((step call.loaded views k me call range keeps at).sleeps call.want (acq.awaited, acq.has) acq.owes_none is.3 refuses),
       (
@@ -86,8 +152,9 @@ falls_asleep views k me call a range keeps at is =
           owes_none = acq.owes_none;
           woken = λ w. absurd (false≢true w);
           tries = acq.tries;
-          no_bar = acq.no_bar;
+          patient = acq.patient;
           writer = acq.writer;
+          reader = acq.reader;
         },
         is.1,
         is.2,
@@ -95,6 +162,7 @@ falls_asleep views k me call a range keeps at is =
         (λ asleep. refl),
         is.5,
         is.6,
+        is.7,
       ),
     )
 
@@ -104,22 +172,7 @@ sleep_ends : (word : ℕ) (views : List ParkView) (k : ℕ) (me : ParkView) (cal
     × IsAt stage.Look (next_at stage.Sleep answer call).0 (with_park me Woken) (next_at stage.Sleep answer call).1
 sleep_ends word views k me call a answer range keeps at is = (
   as_kept word views k me call range keeps at (slice_set views k (with_park me Woken)) (step word views k me call range keeps at).wakes,
-  (
-    (
-      record {
-        awaited = is.0.awaited;
-        has = is.0.has;
-        bar = is.0.bar;
-        owes_none = is.0.owes_none;
-        woken = λ w. refl;
-        tries = λ b. absurd (true≢false (sym is.2 ∙ b));
-        no_bar = is.0.no_bar;
-        writer = is.0.writer;
-      },
-      refl,
-    ),
-    refl,
-  ),
+  ((after_sleep call answer me Woken is.0 is.2, refl), refl),
 )
 
 wake_all_awake : (v : ParkView) → v.park ≡ Awake → (wake_all v).park ≡ Awake
@@ -130,10 +183,10 @@ wake_all_awake v e = by v.park e
     by (Asleep w) e = cc
     by Woken e = cc
 
-wake_next_awake : (v : ParkView) → v.park ≡ Awake → (wake_next v).park ≡ Awake
-wake_next_awake v e = by v.park e
+wake_of_awake : (test : ParkView → ExWant → Bool) (v : ParkView) → v.park ≡ Awake → (wake_of test v).park ≡ Awake
+wake_of_awake test v e = by v.park e
   where
-    by : (park : Park) → park ≡ Awake → (wake_next (with_park v park)).park ≡ Awake
+    by : (park : Park) → park ≡ Awake → wake_park_of test v park ≡ Awake
     by Awake e = refl
     by (Asleep w) e = cc
     by Woken e = cc
@@ -156,10 +209,20 @@ sleeps_keep_the_rule =
             ((step word views k me call range keeps at).pays_all is.1),
         ((wake_all_awake me is.0, refl), refl),
       );
+      wakes_all_acquired = λ word views k me call range keeps at is. (
+        as_kept word views k me call range keeps at (slice_set (map wake_all views) k (with_debt (wake_all me) debt.Nothing))
+            ((step word views k me call range keeps at).pays_all is.1),
+        ((wake_all_awake me is.0, refl), refl, is.3),
+      );
       wakes_next = λ word views k me call range keeps at is. (
         as_kept word views k me call range keeps at (slice_set (map wake_next views) k (with_debt (wake_next me) debt.Nothing))
             ((step word views k me call range keeps at).pays_next (owes_next me.debt is.1) (ap is_asleep is.0) (idle word views k me call range keeps at is.0)),
-        ((wake_next_awake me is.0, refl), refl),
+        ((wake_of_awake is_next me is.0, refl), refl),
+      );
+      wakes_turn = λ word views k me call range keeps at is. (
+        as_kept word views k me call range keeps at (slice_set (map wake_turn views) k (with_debt (wake_turn me) debt.Nothing))
+            ((step word views k me call range keeps at).pays_turn (owes_turn me.debt is.1) (ap is_asleep is.0) (idle word views k me call range keeps at is.0)),
+        ((wake_of_awake is_in_turn me is.0, refl), refl),
       );
       wakes_one = λ word views k j me w call wish range keeps at is at_j asleep.
           let other : j ≢ k = λ e.
@@ -167,12 +230,12 @@ sleeps_keep_the_rule =
           let same : w ≡ me = same_Some w me (sym found ∙ at) in
           let park : Asleep wish ≡ Awake = sym asleep ∙ (ap (λ (v : ParkView). v.park) same ∙ is.0) in
           cc in
-          let woken = (each_step (limits_of call) (core_of word) (has_sleepers word) views j w range keeps.kept at_j).wakes in
+          let woken = (each_step (limits_of call) (core_of word) (has_turn word) (has_sleepers word) views j w range keeps.kept at_j).wakes in
           let later = slice_set views j (with_park w Woken) in
           let here : slice_get later k ≡ Some me = other_stays views j k (with_park w Woken) me (is_one_of_two j k other) at in
           let there : slice_get later j ≡ Some (with_park w Woken) = placed views j w (with_park w Woken) at_j in (
             as_kept word views k me call range keeps at (slice_set later k (with_debt me debt.Nothing))
-                ((each_step (limits_of call) (core_of word) (has_sleepers word) later k me range woken here).pays_one j (with_park w Woken)
+                ((each_step (limits_of call) (core_of word) (has_turn word) (has_sleepers word) later k me range woken here).pays_one j (with_park w Woken)
                 (owes_one me.debt is.1) (ap is_asleep is.0) other there refl),
             ((is.0, refl), refl),
           );
@@ -188,8 +251,9 @@ sleeps_keep_the_rule =
           owes_none = is.0.owes_none;
           woken = λ w. refl;
           tries = λ b. absurd (true≢false (sym is.2 ∙ b));
-          no_bar = is.0.no_bar;
+          patient = is.0.patient;
           writer = is.0.writer;
+          reader = is.0.reader;
         },
         is.1,
         is.2,
@@ -197,6 +261,7 @@ sleeps_keep_the_rule =
         (λ asleep. absurd (false≢true asleep)),
         is.5,
         is.6,
+        is.7,
       );
     }
 
@@ -207,8 +272,8 @@ nobody_is_forgotten =
       at_rest = λ limits word views k v wish keeps at asleep rests.
           elim (keeps.kept.none_forgotten k v wish at asleep) [
             | inl is ↦ (
-              (elim (cases_lt word (2 ^ 35)) [
-                | inl low ↦ absurd (false≢true (sym (ap not (lt-ltb word (2 ^ 35) low)) ∙ is.0))
+              (elim (cases_lt word (2 ^ 36)) [
+                | inl low ↦ absurd (false≢true (sym (ap not (lt-ltb word (2 ^ 36) low)) ∙ is.0))
                 | inr high ↦ high
               ]),
               is.1,
@@ -216,9 +281,9 @@ nobody_is_forgotten =
             | inr someone ↦
                 (let none = rests someone.number someone.server someone.is in
                 let d : reaches limits someone.server.debt v wish ≡ false = ap (λ x. reaches limits x v wish) none.0 in
-                elim (or_cases (reaches limits someone.server.debt v wish) (has_duty limits someone.server) someone.does) [
+                elim (or_cases (reaches limits someone.server.debt v wish) (has_duty limits someone.server && not v.held.announced) someone.does) [
                   | inl owes ↦ absurd (false≢true (sym d ∙ owes))
-                  | inr duty ↦ absurd (by limits.wakes_one someone.server.park none.1 duty)
+                  | inr duty ↦ absurd (by limits.wakes_one someone.server.park none.1 (duty_serves limits someone.server v duty).0)
                 ])
           ];
     }

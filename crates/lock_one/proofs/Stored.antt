@@ -21,16 +21,16 @@ use Rattle.lock_one.specs.Steps.{Keeps}
 use Rattle.lock_one.specs.Stored.{stored_of, word_of_stored, stored_amount, StoringKeepsWords}
 use Rattle.lock_one.proofs.Parking.{parties_of, party_of, party_at, rule_of}
 
-pub read_back : (word : ℕ) → word < 2 ^ 36 → word_of_stored (stored_of word) ≡ word
+pub read_back : (word : ℕ) → word < 2 ^ 37 → word_of_stored (stored_of word) ≡ word
 read_back word small = omega arith
 
-pub stored_again : (stored : ℕ) → stored < 2 ^ 36 → stored_of (word_of_stored stored) ≡ stored
+pub stored_again : (stored : ℕ) → stored < 2 ^ 37 → stored_of (word_of_stored stored) ≡ stored
 stored_again stored small = omega arith
 
 pub few : (limit : ℕ) (all : BarredBag) → IsLegalBarredBag limit all → readers all.bag ≤ limit
 few limit all legal = grind arith
 
-in_half : (limits : ParkLimits) (word : ℕ) (views : List ParkView) → IsLimit limits.readers → limits.readers < 2 ^ 28
+in_half : (limits : ParkLimits) (word : ℕ) (views : List ParkView) → IsLimit limits.readers → limits.readers < 2 ^ 27
     → Keeps limits word views → stored_of word < 2 ^ 32
 in_half limits word views range less keeps =
     let all = all_of (holds_of views) in
@@ -41,7 +41,7 @@ in_half limits word views range less keeps =
     let small = keeps.small in
     omega arith
 
-one_reader : (word : ℕ) → word < 2 ^ 36 → word % 2 ^ 32 < 2 ^ 32 - 1 → stored_of (word + 1) ≡ stored_of word + 16
+one_reader : (word : ℕ) → word < 2 ^ 37 → word % 2 ^ 32 < 2 ^ 32 - 1 → stored_of (word + 1) ≡ stored_of word + 32
 one_reader word small room = omega arith
 
 -- a subtraction modulo a number takes away, and with the complement of a number it adds
@@ -53,28 +53,28 @@ rises : (n k after modulus : ℕ) → after ≡ n + k → after < modulus → (n
 rises n k after modulus is small =
     ap (λ m. m % modulus) (omega arith) ∙ mod-mul-add 0 modulus after small
 
-less : (limit word modulus : ℕ) (own : Hold) (d : Down) → word < 2 ^ 36 → amount d ≤ core_of word → IsTrue (hold_has own (step_of_down d))
+less : (limit word modulus : ℕ) (own : Hold) (d : Down) → word < 2 ^ 37 → amount d ≤ core_of word → IsTrue (hold_has own (step_of_down d))
     → WordShows limit (core_of word) own → stored_of word < modulus → stored_of (word - amount d) < modulus
     → (stored_of word + (modulus - stored_amount modulus d)) % modulus ≡ stored_of (word - amount d)
 less limit word modulus own down.Shared small within has seen before after =
     let one = ltb-true 0 own.bag.shared has in
     let reads = (seen.reads (omega arith)).0 in
-    falls (stored_of word) 16 (stored_of (word - amount down.Shared)) modulus (omega arith) before
+    falls (stored_of word) 32 (stored_of (word - amount down.Shared)) modulus (omega arith) before
 less limit word modulus own down.Exclusive small within has seen before after =
     falls (stored_of word) 2 (stored_of (word - amount down.Exclusive)) modulus (omega arith) before
 less limit word modulus own down.Upgradable small within has seen before after =
     let one = ltb-true 0 own.bag.upgradable has in
     let reads = (seen.reads (omega arith)).0 in
-    falls (stored_of word) 17 (stored_of (word - amount down.Upgradable)) modulus (omega arith) before
+    falls (stored_of word) 33 (stored_of (word - amount down.Upgradable)) modulus (omega arith) before
 less limit word modulus own down.ToShared small within has seen before after =
-    rises (stored_of word) 14 (stored_of (word - amount down.ToShared)) modulus
+    rises (stored_of word) 30 (stored_of (word - amount down.ToShared)) modulus
     (elim (seen.exclusive (ltb-true 0 own.bag.exclusive has)) [
       | inl alone ↦ omega arith
       | inr barred ↦ omega arith
     ])
     after
 less limit word modulus own down.ToUpgradable small within has seen before after =
-    rises (stored_of word) 15 (stored_of (word - amount down.ToUpgradable)) modulus
+    rises (stored_of word) 31 (stored_of (word - amount down.ToUpgradable)) modulus
     (elim (seen.exclusive (ltb-true 0 own.bag.exclusive has)) [
       | inl alone ↦ omega arith
       | inr barred ↦ omega arith

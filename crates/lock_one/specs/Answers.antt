@@ -1,5 +1,5 @@
 -- What the answer of a call means, and the first steps of an uncontended call.
-use Rattle.std.specs.Prelude.{◌≡◌, ◌≢◌, ℕ, ◌-◌, ◌<◌, Bool, true, false, ◌⊎◌, ⊤}
+use Rattle.std.specs.Prelude.{◌≡◌, ℕ, ◌-◌, ◌<◌, Bool, true, false, ◌⊎◌, ⊤}
 use Rattle.lock_modes.specs.declared.hold.Hold.{Hold}
 use Rattle.lock_modes.specs.Holds.{hold_after}
 use Rattle.lock_word.specs.declared.want.ExWant.{ExWant}
@@ -10,7 +10,7 @@ use Rattle.lock_one.specs.declared.call.Call.{Call}
 use Rattle.lock_one.specs.declared.stage.Stage.{Stage}
 use Rattle.lock_one.specs.declared.stage.Stage.TheVariants as stage
 use Rattle.lock_one.specs.declared.park.ParkView.{ParkView}
-use Rattle.lock_one.specs.Machine.{core_of, sleepers, acquiring, removes_reader, alone, taking, next_of}
+use Rattle.lock_one.specs.Machine.{turn, sleepers, admits_word, acquiring, removes_reader, alone, taking, next_of}
 use Rattle.lock_one.specs.Steps.{IsAt, hold_at}
 
 -- THE LAW OF ANSWERS
@@ -23,7 +23,7 @@ pub record AnswersMatchHolds : Type 0 where
       → (v.held ≡ hold_after (record before { announced = call.announced }) (step_of_want call.want)) ⊎ (v.held ≡ hold_after before (step_of_down call.down))
   -- a try is refused only by a word that refuses it
   pub word_refuses : (call : Call) (found : ℕ) → (call.stage ≡ stage.Look) ⊎ (call.stage ≡ stage.Try)
-      → (next_of found call).1 ≡ End false → word_admits call.announced call.readers (core_of found) call.want ≡ false
+      → (next_of found call).1 ≡ End false → admits_word call.announced call.readers found call.want ≡ false
 
 -- the call blocks, and its deadline has passed
 abbrev pub IsLate : Call → Type 0
@@ -35,11 +35,11 @@ CauseAt stage.Mark call = call.blocks ≡ true
 CauseAt stage.Withdraw call = IsLate call
 CauseAt stage.Leave call = IsLate call
 CauseAt stage.WakeRefused call = IsLate call
-CauseAt stage.Refused call = ((call.blocks ≡ false) × (word_admits false call.readers (core_of call.loaded) call.want ≡ false)) ⊎ IsLate call
+CauseAt stage.Refused call = ((call.blocks ≡ false) × (admits_word false call.readers call.loaded call.want ≡ false)) ⊎ IsLate call
 CauseAt other call = ⊤
 
 pub record HasCause (call : Call) : Type 0 where
-  pub unannounced : call.blocks ≡ false → call.announced ≡ false
+  pub unannounced : call.blocks ≡ false → (call.announced ≡ false) × (call.turned ≡ false)
   pub cause : CauseAt call.stage call
 
 -- THE LAW OF REFUSALS: whatever its steps are answered, a try is refused by a word alone, and a call that blocks by its deadline alone
@@ -49,15 +49,15 @@ pub record RefusalsHaveCauses : Type 0 where
   pub goes_on : (found : ℕ) (call : Call) → HasCause call → HasCause (next_of found call).0
   -- a call begins in time, and is late only after its sleep was answered so
   pub begins_in_time : (readers : ℕ) (wish : ExWant) (blocks announces : Bool) → (acquiring readers wish blocks announces).0.late ≡ false
-  pub late : (found : ℕ) (call : Call) → (next_of found call).0.late ≡ true → (call.late ≡ true) ⊎ ((call.stage ≡ stage.Sleep) × (found ≢ 0))
+  pub late : (found : ℕ) (call : Call) → (next_of found call).0.late ≡ true → (call.late ≡ true) ⊎ ((call.stage ≡ stage.Sleep) × (found ≡ 1))
 
--- THE LAW OF FIRST STEPS: on a word without S that admits it, a call makes this exchange, and has acquired after it. A release of
+-- THE LAW OF FIRST STEPS: on a word without T and S that admits it, a call makes this exchange, and has acquired after it. A release of
 -- a holder that is alone makes this exchange, and one of a reader among words without S a subtraction, and has ended after it
 pub record FirstSteps : Type 0 where
-  pub acquires : (readers word : ℕ) (wish : ExWant) (blocks announces : Bool) → word < sleepers
+  pub acquires : (readers word : ℕ) (wish : ExWant) (blocks announces : Bool) → word < turn
       → word_admits false readers word wish ≡ true
       → (next_of word (acquiring readers wish blocks announces).0).1 ≡ Exchange word (word_after word wish)
-  pub acquired : (readers word : ℕ) (wish : ExWant) (blocks announces : Bool) → word < sleepers
+  pub acquired : (readers word : ℕ) (wish : ExWant) (blocks announces : Bool) → word < turn
       → word_admits false readers word wish ≡ true
       → (next_of word (next_of word (acquiring readers wish blocks announces).0).0).1 ≡ End true
   pub releases : (readers : ℕ) (down : Down) → removes_reader readers down ≡ false

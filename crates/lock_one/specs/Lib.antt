@@ -4,3 +4,5 @@ pub mod Steps
 pub mod Answers
 pub mod Runs
 pub mod Stored
+pub mod Bars
+pub mod Turn

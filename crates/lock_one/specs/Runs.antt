@@ -1,5 +1,5 @@
 -- Runs: any number of threads with one lock of one word, which make single steps in any order, and sleep.
-use Rattle.std.specs.Prelude.{◌≡◌, ℕ, ◌^◌, ◌<◌, ◌≤◌, Bool, true, false, not, ◌&&◌, ◌||◌, ◌==◌, if◌then◌else◌, List, [], ◌∷◌, ◌++◌, map, slice_get, slice_set, Option, Some, None, IsTrue}
+use Rattle.std.specs.Prelude.{◌≡◌, ℕ, ◌%◌, ◌^◌, ◌<◌, ◌≤◌, Bool, true, false, not, ◌&&◌, ◌||◌, ◌==◌, if◌then◌else◌, List, [], ◌∷◌, ◌++◌, map, slice_get, slice_set, Option, Some, None}
 use Rattle.lock_modes.specs.declared.hold.Hold.{Hold}
 use Rattle.lock_modes.specs.Limits.{IsLimit}
 use Rattle.lock_modes.specs.Holds.{hold_has}
@@ -11,6 +11,7 @@ use Rattle.lock_word.specs.Word.{word_of, step_of_want, step_of_down}
 use Rattle.lock_word.specs.Unblocking.{is_awaited}
 use Rattle.lock_one.specs.declared.action.Action.{Action}
 use Rattle.lock_one.specs.declared.action.Action.TheVariants as action
+use Rattle.lock_one.specs.declared.action.Sleeper.{Sleeper}
 use Rattle.lock_one.specs.declared.stage.Stage.{Stage}
 use Rattle.lock_one.specs.declared.stage.Stage.TheVariants as stage
 use Rattle.lock_one.specs.declared.park.ParkLimits.{ParkLimits}
@@ -19,8 +20,8 @@ use Rattle.lock_one.specs.declared.park.Park.{Park}
 use Rattle.lock_one.specs.declared.park.Park.TheVariants.{Awake, Asleep, Woken}
 use Rattle.lock_one.specs.declared.park.Debt.{Debt}
 use Rattle.lock_one.specs.declared.park.Debt.TheVariants as debt
-use Rattle.lock_one.specs.Rule.{holds_of, is_asleep, IsEntitled, IsServed, with_park, with_debt, wake_all, wake_next, new_party, is_next}
-use Rattle.lock_one.specs.Machine.{Progress, is_exclusive, wakes_one, core_of, has_sleepers, acquiring, taking, next_at, next_of}
+use Rattle.lock_one.specs.Rule.{holds_of, is_asleep, is_shared, IsEntitled, IsServed, with_park, with_debt, wake_all, wake_next, wake_turn, new_party}
+use Rattle.lock_one.specs.Machine.{Progress, is_exclusive, is_due, core_of, has_turn, has_sleepers, sleepers, class_of, is_brief, sets_turn, acquiring, taking, next_at, next_of}
 use Rattle.lock_one.specs.Steps.{made, touches, ends, hold_at}
 
 -- a call that has not ended: the call and its next action, and what the thread held when it began
@@ -82,6 +83,7 @@ park_at stage.Subtract park = Awake
 park_at stage.Release park = Awake
 park_at stage.Wake park = Awake
 park_at stage.WakeRefused park = Awake
+park_at stage.WakeAcquired park = Awake
 park_at stage.Acquired park = Awake
 park_at stage.Refused park = Awake
 park_at stage.Ended park = Awake
@@ -92,16 +94,35 @@ abbrev pub debt_at : Action → Debt
 debt_at action.Load = debt.Nothing
 debt_at (action.Exchange a b) = debt.Nothing
 debt_at (action.Subtract d) = debt.Nothing
-debt_at (action.Park n f) = debt.Nothing
+debt_at (action.Park n c b) = debt.Nothing
 debt_at action.WakeOne = debt.One
 debt_at action.WakeAll = debt.All
 debt_at action.WakeNext = debt.Next
+debt_at action.WakeTurn = debt.Turn
 debt_at (action.Spin n) = debt.Nothing
 debt_at action.Yield = debt.Nothing
 debt_at (action.End b) = debt.Nothing
 
+-- whether a call at this stage has set T, and goes on
+abbrev pub turned_at : Stage → Bool → Bool
+turned_at stage.LookToRemove turned = false
+turned_at stage.Subtract turned = false
+turned_at stage.Release turned = false
+turned_at stage.Wake turned = false
+turned_at stage.WakeRefused turned = false
+turned_at stage.WakeAcquired turned = false
+turned_at stage.Acquired turned = false
+turned_at stage.Refused turned = false
+turned_at stage.Ended turned = false
+turned_at waiting turned = turned
+
 abbrev pub view_after : Progress → Park → Hold → ParkView
-view_after next park before = record { held = hold_at next.0.stage next.0 before; park = park_at next.0.stage park; debt = debt_at next.1 }
+view_after next park before =
+    record {
+      held = hold_at next.0.stage next.0 before;
+      park = park_at next.0.stage park;
+      debt = debt_at next.1;
+    }
 
 -- the call goes on, or it has ended
 abbrev pub goes_on : Progress → Hold → Option Underway
@@ -131,7 +152,7 @@ steps_by s k given t u =
 
 -- whether a park finds its number in the word. A yield does not sleep
 abbrev pub finds : Action → ℕ → Bool
-finds (action.Park n passes) word = word == n
+finds (action.Park n class brief) word = word == n
 finds other word = false
 
 -- a park: the thread falls asleep if the answer is 0 and the word is the number. Otherwise its sleep ends, and it may be late
@@ -158,12 +179,14 @@ wake_at s k j t u (Some w) =
 abbrev pub wakes_by : LockInUse → ℕ → ℕ → Thread → Underway → Action → LockInUse
 wakes_by s k j t u action.WakeAll = paid (record s { threads = map (view_to wake_all) s.threads }) k (view_to wake_all t) u
 wakes_by s k j t u action.WakeNext = paid (record s { threads = map (view_to wake_next) s.threads }) k (view_to wake_next t) u
+wakes_by s k j t u action.WakeTurn = paid (record s { threads = map (view_to wake_turn) s.threads }) k (view_to wake_turn t) u
 wakes_by s k j t u other = wake_at s k j t u (slice_get s.threads j)
 
 abbrev pub step_at : Stage → LockInUse → ℕ → ℕ → ℕ → Thread → Underway → LockInUse
 step_at stage.Sleep s k given j t u = parks_by s k given t u
 step_at stage.Wake s k given j t u = wakes_by s k j t u u.at.1
 step_at stage.WakeRefused s k given j t u = wakes_by s k j t u u.at.1
+step_at stage.WakeAcquired s k given j t u = wakes_by s k j t u u.at.1
 step_at other s k given j t u = steps_by s k given t u
 
 abbrev pub step_in : LockInUse → ℕ → ℕ → ℕ → Thread → Option Underway → LockInUse
@@ -199,26 +222,46 @@ pub record IsInPark (t : Thread) : Type 0 where
   pub sleeps : underway.at.0.stage ≡ stage.Sleep
   pub wants : t.view.park ≡ Asleep underway.at.0.want
   pub marked : has_sleepers underway.at.0.loaded ≡ true
-  -- it parks for the word that it loaded, with a flag for whether it may pass a bar
-  pub parks : (number : ℕ) (passes : Bool) → underway.at.1 ≡ action.Park number passes
-      → (number ≡ underway.at.0.loaded) × (passes ≡ is_next t.view underway.at.0.want)
-  -- and a writer that announces itself, in a lock for several readers, parks for a word with a bar, its own or another's
-  pub barred : underway.at.0.announces ≡ true → is_exclusive underway.at.0.want ≡ true → wakes_one underway.at.0 ≡ false → 2 ^ 34 ≤ core_of underway.at.0.loaded
+  -- it parks for the word that it loaded, as what it is to a wake-up
+  pub parks : (number : ℕ) (class : Sleeper) (brief : Bool) → underway.at.1 ≡ action.Park number class brief
+      → (number ≡ underway.at.0.loaded) × (class ≡ class_of t.view.held.announced underway.at.0.want) × (brief ≡ is_brief underway.at.0)
+  -- and a writer that announces itself and is due parks for a word with a bar, its own or another's, or with T
+  pub barred : underway.at.0.announces ≡ true → is_exclusive underway.at.0.want ≡ true → is_due underway.at.0 ≡ true → 2 ^ 34 ≤ underway.at.0.loaded % sleepers
+  -- a reader that would set T has set it
+  pub turned : sets_turn underway.at.0 ≡ false
+
+-- a thread is in a call of a reader that blocks and has set T
+pub record IsTurnOf (t : Thread) : Type 0 where
+  pub underway : Underway
+  pub calls : t.underway ≡ Some underway
+  pub has : turned_at underway.at.0.stage underway.at.0.turned ≡ true
+  pub reads : is_shared underway.at.0.want ≡ true
+  pub blocks : underway.at.0.blocks ≡ true
+
+pub record SomeoneTurns (threads : List Thread) : Type 0 where
+  pub number : ℕ
+  pub thread : Thread
+  pub is : slice_get threads number ≡ Some thread
+  pub owns : IsTurnOf thread
 
 -- what holds after any acts
 pub record ThreadsAreServed (s : LockInUse) : Type 0 where
   pub range : IsLimit s.readers
-  pub small : s.word < 2 ^ 36
-  -- the word without S is the sum of what the threads hold, which is compatible, with at most one bar
+  pub small : s.word < 2 ^ 37
+  -- the word without T and S is the sum of what the threads hold, which is compatible, with at most one bar
   pub coded : core_of s.word ≡ word_of (all_of (holds_of (views_of s.threads)))
   pub legal : IsLegalBarredBag s.readers (all_of (holds_of (views_of s.threads)))
-  -- a mutex has no bar
-  pub no_bar : IsTrue (s.readers == 1) → core_of s.word < 2 ^ 34
+  -- in a mutex, only a call that has slept often has a bar
+  pub patient : (k : ℕ) (t : Thread) (u : Underway) → slice_get s.threads k ≡ Some t → t.underway ≡ Some u → t.view.held.announced ≡ true
+      → is_due u.at.0 ≡ true
   -- a thread that sleeps wants what it may acquire
   pub entitled : (k : ℕ) (v : ParkView) (want : ExWant) → slice_get (views_of s.threads) k ≡ Some v → v.park ≡ Asleep want → IsEntitled v want
-  -- of each sleeper: S is set and the word refuses it; or a thread owes it a wake-up, or (in a mutex) was woken in its place
+  -- of each sleeper: S is set, and the word or T refuses it; or a thread owes it a wake-up, or (in a mutex) was woken in its place
   pub none_forgotten : (k : ℕ) (v : ParkView) (want : ExWant) → slice_get (views_of s.threads) k ≡ Some v → v.park ≡ Asleep want
-      → IsServed (limits_in s.readers) (core_of s.word) (has_sleepers s.word) (views_of s.threads) v want
+      → IsServed (limits_in s.readers) (core_of s.word) (has_turn s.word) (has_sleepers s.word) (views_of s.threads) v want
+  -- where T is set, a thread is in a call that has set it. T is no bit of a mutex
+  pub turn_owned : has_turn s.word ≡ true → SomeoneTurns s.threads
+  pub no_turn : s.readers ≡ 1 → has_turn s.word ≡ false
   -- a thread that sleeps is in its park, for what its call wants, and the number that it parks for has S
   pub parked : (k : ℕ) (t : Thread) → slice_get s.threads k ≡ Some t → is_asleep t.view.park ≡ true → IsInPark t
   -- a thread in no call has no bar: a call that ended left none

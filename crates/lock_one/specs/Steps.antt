@@ -1,13 +1,13 @@
 -- What the steps of a call mean: whatever all other calls do, each step keeps the rule by which no sleeper is forgotten.
-use Rattle.std.specs.Prelude.{◌≡◌, ℕ, ◌+◌, ◌-◌, ◌^◌, ◌<◌, Bool, true, false, not, ◌&&◌, ◌==◌, if◌then◌else◌, ◌⊎◌, List, [], ◌∷◌, ◌≤◌, map, slice_get, slice_set, Some, ⊤, IsTrue}
+use Rattle.std.specs.Prelude.{◌≡◌, ℕ, ◌%◌, ◌+◌, ◌-◌, ◌^◌, ◌<◌, Bool, true, false, not, ◌&&◌, ◌==◌, if◌then◌else◌, ◌⊎◌, List, [], ◌∷◌, ◌≤◌, map, slice_get, slice_set, Some, ⊤, IsTrue}
 use Rattle.lock_modes.specs.Limits.{IsLimit}
 use Rattle.lock_modes.specs.declared.hold.Hold.{Hold}
 use Rattle.lock_modes.specs.Holds.{hold_has, hold_after}
-use Rattle.lock_word.specs.Word.{word_admits, amount, step_of_want, step_of_down}
+use Rattle.lock_word.specs.Word.{amount, step_of_want, step_of_down}
 use Rattle.lock_word.specs.declared.want.ExWant.{ExWant}
 use Rattle.lock_word.specs.Unblocking.{is_awaited}
 use Rattle.lock_one.specs.declared.action.Action.{Action}
-use Rattle.lock_one.specs.declared.action.Action.TheVariants.{Load, Exchange, Subtract, WakeOne, WakeAll, WakeNext, Spin, Yield, End}
+use Rattle.lock_one.specs.declared.action.Action.TheVariants.{Load, Exchange, Subtract, WakeOne, WakeAll, WakeNext, WakeTurn, Spin, Yield, End}
 use Rattle.lock_one.specs.declared.action.Action.TheVariants as action
 use Rattle.lock_one.specs.declared.call.Call.{Call}
 use Rattle.lock_one.specs.declared.stage.Stage.{Stage}
@@ -18,18 +18,19 @@ use Rattle.lock_one.specs.declared.park.Park.{Park}
 use Rattle.lock_one.specs.declared.park.Park.TheVariants.{Awake, Asleep, Woken}
 use Rattle.lock_one.specs.declared.park.Debt.{Debt}
 use Rattle.lock_one.specs.declared.park.Debt.TheVariants as debt
-use Rattle.lock_one.specs.Rule.{is_asleep, is_woken, admits_to, IsServed, with_park, with_debt, wake_all, wake_next, KeepsParking}
-use Rattle.lock_one.specs.Machine.{Progress, core_of, has_sleepers, sleepers, wakes_one, is_exclusive, sleep_of, after_try, word_marked, word_released, next_at, next_of}
+use Rattle.lock_one.specs.Rule.{is_asleep, is_woken, is_shared, IsRefused, IsServed, with_park, with_debt, wake_all, wake_next, wake_turn, KeepsParking}
+use Rattle.lock_one.specs.Machine.{Progress, core_of, has_turn, has_sleepers, sleepers, admits_word, wakes_one, has_slept, is_due, is_exclusive, sets_turn, sleep_of, after_try, word_marked, word_withdrawn, word_released, next_at, next_of}
 
 -- the word after an action that is made in one atomic step
 abbrev pub made : Action → ℕ → ℕ
 made Load w = w
 made (Exchange a b) w = if w == a then b else w
 made (Subtract d) w = w - amount d
-made (action.Park n f) w = w
+made (action.Park n c b) w = w
 made WakeOne w = w
 made WakeAll w = w
 made WakeNext w = w
+made WakeTurn w = w
 made (Spin n) w = w
 made Yield w = w
 made (End b) w = w
@@ -39,10 +40,11 @@ abbrev pub touches : Action → Bool
 touches Load = true
 touches (Exchange a b) = true
 touches (Subtract d) = true
-touches (action.Park n f) = true
+touches (action.Park n c b) = true
 touches WakeOne = false
 touches WakeAll = false
 touches WakeNext = false
+touches WakeTurn = false
 touches (Spin n) = false
 touches Yield = false
 touches (End b) = false
@@ -51,10 +53,11 @@ abbrev pub ends : Action → Bool
 ends Load = false
 ends (Exchange a b) = false
 ends (Subtract d) = false
-ends (action.Park n f) = false
+ends (action.Park n c b) = false
 ends WakeOne = false
 ends WakeAll = false
 ends WakeNext = false
+ends WakeTurn = false
 ends (Spin n) = false
 ends Yield = false
 ends (End b) = true
@@ -85,22 +88,23 @@ limits_of call = record { readers = call.readers; wakes_one = wakes_one call }
 
 -- whether the loaded word admits what the call wants
 abbrev pub is_admitted : Call → Bool
-is_admitted call = word_admits call.announced call.readers (core_of call.loaded) call.want
+is_admitted call = admits_word call.announced call.readers call.loaded call.want
 
 -- the party acquires what the call wants: it holds what the exchange takes, its bar is as said, it owes nothing, it is awake, and
--- if it was woken, the call has slept
-pub record Acquires (want : ExWant) (announced slept blocks one : Bool) (v : ParkView) : Type 0 where
+-- if it was woken, the call has slept. A call that has set the bar was due to, and one that has set T is a reader
+pub record Acquires (want : ExWant) (announced turned slept blocks due : Bool) (v : ParkView) : Type 0 where
   pub awaited : IsTrue (is_awaited want)
   pub has : IsTrue (hold_has v.held (step_of_want want))
   pub bar : announced ≡ v.held.announced
   pub owes_none : v.debt ≡ debt.Nothing
   pub woken : IsTrue (is_woken v.park) → slept ≡ true
-  pub tries : blocks ≡ false → (slept ≡ false) × (announced ≡ false)
-  pub no_bar : announced ≡ true → one ≡ false
+  pub tries : blocks ≡ false → (slept ≡ false) × (announced ≡ false) × (turned ≡ false)
+  pub patient : announced ≡ true → due ≡ true
   pub writer : announced ≡ true → is_exclusive want ≡ true
+  pub reader : turned ≡ true → is_shared want ≡ true
 
 abbrev pub Acquiring : Call → ParkView → Type 0
-Acquiring call v = Acquires call.want call.announced call.slept call.blocks (wakes_one call) v
+Acquiring call v = Acquires call.want call.announced call.turned (has_slept call) call.blocks (is_due call) v
 
 abbrev pub Awaits : Call → ParkView → Type 0
 Awaits call v = Acquiring call v × (is_asleep v.park ≡ false)
@@ -114,6 +118,7 @@ IsWake debt.Nothing a = ⊥
 IsWake debt.One a = a ≡ WakeOne
 IsWake debt.All a = a ≡ WakeAll
 IsWake debt.Next a = a ≡ WakeNext
+IsWake debt.Turn a = a ≡ WakeTurn
 
 abbrev pub AtRest : ParkView → Type 0
 AtRest v = (v.park ≡ Awake) × (v.debt ≡ debt.Nothing)
@@ -124,17 +129,20 @@ IsAt stage.Look call v a = Awaits call v × (a ≡ Load)
 IsAt stage.Try call v a = Awaits call v × (is_admitted call ≡ true) × (a ≡ Exchange call.loaded (after_try call call.loaded))
 IsAt stage.Pause call v a = Awaits call v × IsPause a
 IsAt stage.Mark call v a = Awaits call v × (is_admitted call ≡ false) × (call.blocks ≡ true) × (call.left ≡ word_marked call) × (a ≡ Exchange call.loaded (word_marked call))
--- a call that announces itself, in a lock for several readers, parks for a word with a bar, its own or another's
+-- a writer that announces itself and is due parks for a word with a bar, its own or another's, or with T; and a call that would set T
+-- has set it
 IsAt stage.Sleep call v a =
-    Acquires call.want call.announced true call.blocks (wakes_one call) v × (is_admitted call ≡ false) × (call.blocks ≡ true) × (has_sleepers call.loaded ≡ true) × (IsTrue (is_asleep v.park) → v.park ≡ Asleep call.want)
-    × (a ≡ sleep_of call) × (call.announces ≡ true → is_exclusive call.want ≡ true → wakes_one call ≡ false → 2 ^ 34 ≤ core_of call.loaded)
-IsAt stage.Withdraw call v a = Awaits call v × (call.announced ≡ true) × (a ≡ Exchange call.loaded (core_of call.loaded - 2 ^ 34))
-IsAt stage.Leave call v a = Awaits call v × (is_admitted call ≡ false) × (call.announced ≡ false) × (call.loaded < sleepers) × (a ≡ Exchange call.loaded (call.loaded + sleepers))
+    Acquires call.want call.announced call.turned true call.blocks (is_due call) v × (is_admitted call ≡ false) × (call.blocks ≡ true) × (has_sleepers call.loaded ≡ true) × (IsTrue (is_asleep v.park) → v.park ≡ Asleep call.want)
+    × (a ≡ sleep_of call) × (call.announces ≡ true → is_exclusive call.want ≡ true → is_due call ≡ true → 2 ^ 34 ≤ call.loaded % sleepers) × (sets_turn call ≡ false)
+IsAt stage.Withdraw call v a = Awaits call v × (is_admitted call ≡ false) × ((call.announced ≡ true) ⊎ ((call.turned ≡ true) × (has_turn call.loaded ≡ true))) × (call.late ≡ true) × (a ≡ Exchange call.loaded (word_withdrawn call))
+IsAt stage.Leave call v a = Awaits call v × (is_admitted call ≡ false) × (call.announced ≡ false) × (call.loaded < sleepers) × (a ≡ Exchange call.loaded (call.loaded + sleepers)) × IsTrue (wakes_one call)
 IsAt stage.LookToRemove call v a = IsTrue (hold_has v.held (step_of_down call.down)) × AtRest v × (a ≡ Load)
 IsAt stage.Subtract call v a = IsTrue (hold_has v.held (step_of_down call.down)) × AtRest v × (a ≡ Subtract call.down)
 IsAt stage.Release call v a = IsTrue (hold_has v.held (step_of_down call.down)) × AtRest v × (a ≡ Exchange call.loaded (word_released call.readers call.loaded call.down))
 IsAt stage.Wake call v a = (v.park ≡ Awake) × IsWake v.debt a
 IsAt stage.WakeRefused call v a = (v.park ≡ Awake) × (v.debt ≡ debt.All) × (a ≡ WakeAll)
+IsAt stage.WakeAcquired call v a =
+    (v.park ≡ Awake) × (v.debt ≡ debt.All) × (a ≡ WakeAll) × (v.held.announced ≡ false)
 IsAt stage.Acquired call v a = AtRest v × (a ≡ End true) × (v.held.announced ≡ false)
 IsAt stage.Refused call v a = AtRest v × (a ≡ End false)
 IsAt stage.Ended call v a = AtRest v × (a ≡ End true)
@@ -154,12 +162,13 @@ is_step other = false
 
 -- a word and parties that keep the rule
 pub record Keeps (limits : ParkLimits) (word : ℕ) (views : List ParkView) : Type 0 where
-  pub small : word < 2 ^ 36
-  pub kept : KeepsParking limits (core_of word) (has_sleepers word) views
+  pub small : word < 2 ^ 37
+  pub kept : KeepsParking limits (core_of word) (has_turn word) (has_sleepers word) views
 
 -- what the party holds whose call is at this stage, if it held this when the call began
 abbrev pub hold_at : Stage → Call → Hold → Hold
 hold_at stage.Acquired call before = hold_after (record before { announced = call.announced }) (step_of_want call.want)
+hold_at stage.WakeAcquired call before = hold_after (record before { announced = call.announced }) (step_of_want call.want)
 hold_at stage.LookToRemove call before = before
 hold_at stage.Subtract call before = before
 hold_at stage.Release call before = before
@@ -169,20 +178,20 @@ hold_at stage.Refused call before = record before { announced = false }
 hold_at stage.WakeRefused call before = record before { announced = false }
 hold_at waiting call before = record before { announced = call.announced }
 
-abbrev pub lock_and : ParkLimits → Bool → ParkLimits × Bool
-lock_and limits slept = (limits, slept)
+abbrev pub lock_and : ParkLimits → ℕ → ParkLimits × ℕ
+lock_and limits sleeps = (limits, sleeps)
 
--- what no step of a call changes but the end of a sleep: its lock, and whether it has slept
-abbrev pub lock_of : Call → ParkLimits × Bool
-lock_of call = lock_and (limits_of call) call.slept
+-- what no step of a call changes but the end of a sleep: its lock, and how often it has slept
+abbrev pub lock_of : Call → ParkLimits × ℕ
+lock_of call = lock_and (limits_of call) call.sleeps
 
-pub record StepKept (limits : ParkLimits) (slept : Bool) (park : Park) (before : Hold) (word : ℕ) (views : List ParkView) (k : ℕ) (next : Progress) : Type 0 where
+pub record StepKept (limits : ParkLimits) (sleeps : ℕ) (park : Park) (before : Hold) (word : ℕ) (views : List ParkView) (k : ℕ) (next : Progress) : Type 0 where
   pub you : ParkView
   pub keeps : Keeps limits word (slice_set views k you)
   pub at : IsAt next.0.stage next.0 you next.1
   pub held : you.held ≡ hold_at next.0.stage next.0 before
   pub parked : (you.park ≡ park) ⊎ (you.park ≡ Awake)
-  pub same_lock : lock_of next.0 ≡ lock_and limits slept
+  pub same_lock : lock_of next.0 ≡ lock_and limits sleeps
 
 -- THE LAW: take any word and parties that keep the rule. Let one party make the next action of its call, in one atomic step, and
 -- answer the call with what it found. The rule holds again, the party is where its new next action is to be made, and it holds
@@ -192,7 +201,7 @@ StepsKeepTheRule =
     (word : ℕ) (views : List ParkView) (k : ℕ) (me : ParkView) (call : Call) (action : Action) (found : ℕ) (before : Hold)
     → IsLimit call.readers → Keeps (limits_of call) word views → slice_get views k ≡ Some me
     → IsAt call.stage call me action → me.held ≡ hold_at call.stage call before → is_step call.stage ≡ true → (IsTrue (touches action) → found ≡ word)
-    → StepKept (limits_of call) call.slept me.park before (made action word) views k (next_of found call)
+    → StepKept (limits_of call) call.sleeps me.park before (made action word) views k (next_of found call)
 
 -- THE LAW OF SLEEP: a party at its park falls asleep where the word is the number that it parks for; a sleep ends at any time; and
 -- a wake-up is made. The rule holds again
@@ -214,11 +223,21 @@ pub record SleepsKeepTheRule : Type 0 where
       → IsLimit call.readers → Keeps (limits_of call) word views → slice_get views k ≡ Some me → IsAt stage.WakeRefused call me WakeAll
       → Keeps (limits_of call) word (slice_set (map wake_all views) k (with_debt (wake_all me) debt.Nothing))
       × IsAt stage.Refused (next_at stage.WakeRefused 0 call).0 (with_debt (wake_all me) debt.Nothing) (next_at stage.WakeRefused 0 call).1
+  -- of all, after an acquisition that took the turn
+  pub wakes_all_acquired : (word : ℕ) (views : List ParkView) (k : ℕ) (me : ParkView) (call : Call)
+      → IsLimit call.readers → Keeps (limits_of call) word views → slice_get views k ≡ Some me → IsAt stage.WakeAcquired call me WakeAll
+      → Keeps (limits_of call) word (slice_set (map wake_all views) k (with_debt (wake_all me) debt.Nothing))
+      × IsAt stage.Acquired (next_at stage.WakeAcquired 0 call).0 (with_debt (wake_all me) debt.Nothing) (next_at stage.WakeAcquired 0 call).1
   -- of those that may pass a bar
   pub wakes_next : (word : ℕ) (views : List ParkView) (k : ℕ) (me : ParkView) (call : Call)
       → IsLimit call.readers → Keeps (limits_of call) word views → slice_get views k ≡ Some me → IsAt stage.Wake call me WakeNext
       → Keeps (limits_of call) word (slice_set (map wake_next views) k (with_debt (wake_next me) debt.Nothing))
       × IsAt stage.Ended (next_at stage.Wake 0 call).0 (with_debt (wake_next me) debt.Nothing) (next_at stage.Wake 0 call).1
+  -- of those and of all readers
+  pub wakes_turn : (word : ℕ) (views : List ParkView) (k : ℕ) (me : ParkView) (call : Call)
+      → IsLimit call.readers → Keeps (limits_of call) word views → slice_get views k ≡ Some me → IsAt stage.Wake call me WakeTurn
+      → Keeps (limits_of call) word (slice_set (map wake_turn views) k (with_debt (wake_turn me) debt.Nothing))
+      × IsAt stage.Ended (next_at stage.Wake 0 call).0 (with_debt (wake_turn me) debt.Nothing) (next_at stage.Wake 0 call).1
   -- of one that sleeps, or of none if none does
   pub wakes_one : (word : ℕ) (views : List ParkView) (k j : ℕ) (me w : ParkView) (call : Call) (wish : ExWant)
       → IsLimit call.readers → Keeps (limits_of call) word views → slice_get views k ≡ Some me → IsAt stage.Wake call me WakeOne
@@ -238,9 +257,9 @@ pub record SleepsKeepTheRule : Type 0 where
 pub record NobodyIsForgotten : Type 0 where
   pub served : (limits : ParkLimits) (word : ℕ) (views : List ParkView) (k : ℕ) (v : ParkView) (wish : ExWant)
       → Keeps limits word views → slice_get views k ≡ Some v → v.park ≡ Asleep wish
-      → IsServed limits (core_of word) (has_sleepers word) views v wish
+      → IsServed limits (core_of word) (has_turn word) (has_sleepers word) views v wish
   -- so where no party owes a wake-up or is woken, S is set and the word refuses each sleeper
   pub at_rest : (limits : ParkLimits) (word : ℕ) (views : List ParkView) (k : ℕ) (v : ParkView) (wish : ExWant)
       → Keeps limits word views → slice_get views k ≡ Some v → v.park ≡ Asleep wish
       → ((j : ℕ) (w : ParkView) → slice_get views j ≡ Some w → (w.debt ≡ debt.Nothing) × (is_woken w.park ≡ false))
-      → (sleepers ≤ word) × (admits_to limits (core_of word) v wish ≡ false)
+      → (sleepers ≤ word) × IsRefused limits (core_of word) (has_turn word) v wish

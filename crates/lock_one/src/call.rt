@@ -1,24 +1,35 @@
 //! A call on a lock of one word, step by step.
-ghost use Rattle.std.specs.Prelude.{◌≡◌};
-ghost use Rattle.lock_one.specs.Machine.{release_of, alone, removes_reader};
+ghost use Rattle.std.specs.Prelude.{◌≡◌, ◌<◌, ◌^◌, ◌&&◌, ◌||◌, if◌then◌else◌};
+ghost use Rattle.lock_one.specs.Machine.{release_of, alone, class_of, has_turn, removes_reader, under_bar};
+ghost use Rattle.lock_one.specs.Rule.{is_shared, passes_turn};
 
-use crate::action::Action;
+use crate::action::{Action, Sleeper};
 use crate::park::Debt;
 use crate::stage::Stage;
 use lock_word::{Down, ExWant, Occupancy, has_bar, unblocks};
 
+/// The turn of readers.
+pub const TURN: u64 = 34_359_738_368;
+
 /// The bit of sleepers.
-pub const SLEEPERS: u64 = 34_359_738_368;
+pub const SLEEPERS: u64 = 68_719_476_736;
+
+/// The bit of an exclusive token.
+const EXCLUSIVE: u64 = 8_589_934_592;
 
 /// The bar.
 const BAR: u64 = 17_179_869_184;
 
 /// The readers' limit from which on a call yields in place of a sleep. A park compares the low half of a stored word, which
-/// has 28 bits of readers.
-const YIELDS_FROM: u64 = 268_435_456;
+/// has 27 bits of readers.
+const YIELDS_FROM: u64 = 134_217_728;
 
 /// How many more exchanges a release makes after its first one fails. Then it subtracts, which cannot fail.
 const EXCHANGES: u32 = 8;
+
+/// After how many sleeps a call of a mutex sets the bar, and a reader its turn. So a call that slept often is next, and a
+/// lock that is seldom contended for long hands nothing over.
+const SLEEPS: u8 = 4;
 
 /// How many pauses a call makes before it sleeps.
 const PAUSES: u32 = 6;
@@ -42,14 +53,16 @@ pub struct Call {
     pub down: Down,
     /// Whether the call blocks.
     pub blocks: bool,
-    /// Whether the call sets the bar before it sleeps.
+    /// Whether the call sets the bar before it sleeps. In a mutex it first sleeps four times.
     pub announces: bool,
     /// Whether the call has set the bar.
     pub announced: bool,
+    /// Whether the call has set the turn of readers.
+    pub turned: bool,
     /// Whether the deadline of the call has passed.
     pub late: bool,
-    /// Whether the call has slept.
-    pub slept: bool,
+    /// How often the call has slept, up to four. A brief sleep that lasted its time counts as four.
+    pub sleeps: u8,
     /// How many pauses the call has made, or how many exchanges of a release have failed.
     pub pauses: u32,
     /// The word that the call found last.
@@ -59,7 +72,7 @@ pub struct Call {
 }
 
 impl Call {
-    ghost use Rattle.lock_one.specs.Machine.{acquiring, taking, next_of, goes_to, ended, acquired, refused, wakes_one, decide, mark_or_sleep, wait, sleep, time_out, release_on, subtract, release_again, look_to_remove, marked, sets_bar, wakes, withdrawn};
+    ghost use Rattle.lock_one.specs.Machine.{acquiring, has_sleepers, has_turn, with_sleepers, with_turn, word_withdrawn, taking, next_of, goes_to, ended, acquired, refused, wakes_one, has_slept, is_due, is_brief, class_of, decide, drops_turn, mark_or_sleep, wait, sleep, sleeps_after, takes_turn, time_out, release_on, subtract, release_again, look_to_remove, marked, sets_bar, sets_turn, wakes, withdrawn, won};
 
     /// Begins a call that acquires or upgrades. Returns the call and its first action.
     pub fn acquire(readers: u64, want: ExWant, blocks: bool, announces: bool) -> (Call, Action)
@@ -73,8 +86,9 @@ impl Call {
             blocks,
             announces,
             announced: false,
+            turned: false,
             late: false,
-            slept: false,
+            sleeps: 0,
             pauses: 0,
             loaded: 0,
             left: 0,
@@ -88,14 +102,14 @@ impl Call {
     {
         match self.stage {
             Stage::Look => self.decide(found),
-            Stage::Try if found == self.loaded => self.acquired(),
+            Stage::Try if found == self.loaded => self.has_won(),
             Stage::Try => self.decide(found),
             Stage::Pause => self.to(Stage::Look, Action::Load),
             Stage::Mark if found == self.loaded => self.has_marked(),
             Stage::Mark => self.decide(found),
             Stage::Sleep => {
-                self.late = found != 0;
-                self.slept = true;
+                self.late = found == 1;
+                self.sleeps = self.sleeps_after(found);
                 self.pauses = 0;
                 self.to(Stage::Look, Action::Load)
             }
@@ -109,6 +123,7 @@ impl Call {
             Stage::Release => self.release_again(found),
             Stage::Wake => self.end(true),
             Stage::WakeRefused => self.refused(),
+            Stage::WakeAcquired => self.acquired(),
             Stage::Acquired | Stage::Refused | Stage::Ended => self.end(false),
         }
     }
@@ -144,27 +159,87 @@ impl Call {
         self.readers == 1
     }
 
+    fn has_slept(&self) -> bool
+        ensures { result ≡ has_slept self.now }
+    {
+        self.sleeps != 0
+    }
+
+    /// Returns whether the call may set the bar: a call of a mutex once it has slept often.
+    fn is_due(&self) -> bool
+        ensures { result ≡ is_due self.now }
+    {
+        !self.wakes_one() || self.sleeps == SLEEPS
+    }
+
+    /// Returns how often the call has slept after a sleep with this answer.
+    fn sleeps_after(&self, found: u64) -> u8
+        ensures { result ≡ sleeps_after found self.now }
+    {
+        if found == 2 && self.is_brief() {
+            return SLEEPS;
+        }
+        if self.sleeps < SLEEPS {
+            self.sleeps + 1
+        } else {
+            self.sleeps
+        }
+    }
+
+    /// Returns whether the next sleep is brief.
+    fn is_brief(&self) -> bool
+        ensures { result ≡ is_brief self.now }
+    {
+        is_shared(self.want) && !self.wakes_one() && self.sleeps < SLEEPS && !has_turn(self.loaded)
+    }
+
+    /// Returns whether the call takes the turn as it acquires on this word.
+    fn takes_turn(&self, word: u64) -> bool
+        ensures { result ≡ takes_turn self.now word }
+    {
+        has_turn(word) && is_shared(self.want)
+    }
+
     /// Acquires if the word admits it. Otherwise the call pauses, sleeps or ends.
     fn decide(&mut self, word: u64) -> Action
         ensures { (self.new, result) ≡ decide word self.old }
     {
         self.loaded = word;
-        let keeps = word >= SLEEPERS || self.wakes_one() && self.slept;
-        match self
+        let exchanged = self
             .want
-            .exchanged(self.announced, self.readers, word % SLEEPERS)
-        {
-            Some(next) => {
-                let left = if keeps {
-                    next.saturating_add(SLEEPERS)
-                } else {
-                    next
-                };
+            .exchanged(self.announced, self.readers, word % TURN);
+        match exchanged {
+            Some(next) if !has_turn(word) || passes_turn(self.announced, self.want) => {
+                let left = self.word_after(word, next);
                 self.left = left;
                 self.to(Stage::Try, Action::Exchange(word, left))
             }
-            None => self.wait(),
+            _ => self.wait(),
         }
+    }
+
+    /// Returns the word after an acquisition that leaves this of its holds and its bar.
+    fn word_after(&self, word: u64, next: u64) -> u64
+        requires { next < 2 ^ 35 }
+        ensures { result ≡ (if takes_turn self.now word then next else with_sleepers (with_turn next (has_turn word)) (has_sleepers word || (wakes_one self.now && has_slept self.now))) }
+    {
+        if self.takes_turn(word) {
+            return next;
+        }
+        let turn = if has_turn(word) { TURN } else { 0 };
+        let keeps = word >= SLEEPERS || self.wakes_one() && self.has_slept();
+        let sleepers = if keeps { SLEEPERS } else { 0 };
+        next.saturating_add(turn).saturating_add(sleepers)
+    }
+
+    /// Ends the call that has acquired, after a wake-up if it took the turn.
+    fn has_won(&mut self) -> Action
+        ensures { (self.new, result) ≡ won self.old }
+    {
+        if self.takes_turn(self.loaded) && self.loaded >= SLEEPERS {
+            return self.to(Stage::WakeAcquired, Action::WakeAll);
+        }
+        self.acquired()
     }
 
     /// Pauses, sleeps or ends the call, since the loaded word refuses.
@@ -197,17 +272,30 @@ impl Call {
         self.announces
             && is_exclusive
             && !self.announced
-            && !self.wakes_one()
-            && !has_bar(self.loaded % SLEEPERS)
+            && self.is_due()
+            && self.loaded % SLEEPERS < BAR
     }
 
-    /// Sleeps, after an exchange that sets the bit of sleepers and the bar where they are needed.
+    fn sets_turn(&self) -> bool
+        ensures { result ≡ sets_turn self.now }
+    {
+        let flags = self.loaded % SLEEPERS;
+        is_shared(self.want)
+            && !self.wakes_one()
+            && self.sleeps == SLEEPS
+            && flags < TURN
+            && flags >= EXCLUSIVE
+    }
+
+    /// Sleeps, after an exchange that sets the bit of sleepers, the bar and the turn where they are needed.
     fn mark_or_sleep(&mut self) -> Action
         ensures { (self.new, result) ≡ mark_or_sleep self.old }
     {
         let word = self.loaded;
         let bar = if self.sets_bar() { BAR } else { 0 };
-        let left = word % SLEEPERS + bar + SLEEPERS;
+        let turns = has_turn(word) || self.sets_turn();
+        let turn = if turns { TURN } else { 0 };
+        let left = word % TURN + bar + turn + SLEEPERS;
         if left == word {
             return self.sleep();
         }
@@ -218,7 +306,9 @@ impl Call {
     fn has_marked(&mut self) -> Action
         ensures { (self.new, result) ≡ marked self.old }
     {
+        let turned = self.turned || self.sets_turn();
         self.announced = self.announced || self.sets_bar();
+        self.turned = turned;
         self.loaded = self.left;
         self.sleep()
     }
@@ -226,9 +316,9 @@ impl Call {
     fn sleep(&mut self) -> Action
         ensures { (self.new, result) ≡ sleep self.old }
     {
-        let is_next = self.announced || matches!(self.want, ExWant::Upgrade);
+        let class = class_of(self.announced, self.want);
         let action = if self.readers < YIELDS_FROM {
-            Action::Park(self.loaded, is_next)
+            Action::Park(self.loaded, class, self.is_brief())
         } else {
             Action::Yield
         };
@@ -237,18 +327,18 @@ impl Call {
 
     /// Ends the call after its deadline.
     ///
-    /// A call with a bar clears it first. A call of a mutex that has slept first sets the bit of sleepers, since it may have
-    /// been woken in place of another thread.
+    /// A call with a bar clears it first, and one that has set the turn clears that. A call of a mutex that has slept, with a
+    /// bar or without, sets the bit of sleepers, since it may have been woken in place of another thread.
     fn time_out(&mut self) -> Action
         ensures { (self.new, result) ≡ time_out self.old }
     {
         let word = self.loaded;
-        if self.announced {
-            let left = (word % SLEEPERS).saturating_sub(BAR);
+        if self.announced || self.drops_turn() {
+            let left = self.word_withdrawn();
             self.left = left;
             return self.to(Stage::Withdraw, Action::Exchange(word, left));
         }
-        if self.wakes_one() && self.slept && word < SLEEPERS {
+        if self.wakes_one() && self.has_slept() && word < SLEEPERS {
             let left = word + SLEEPERS;
             self.left = left;
             return self.to(Stage::Leave, Action::Exchange(word, left));
@@ -256,11 +346,31 @@ impl Call {
         self.refused()
     }
 
+    fn drops_turn(&self) -> bool
+        ensures { result ≡ drops_turn self.now }
+    {
+        self.turned && has_turn(self.loaded)
+    }
+
+    /// Returns the word after a withdrawal.
+    fn word_withdrawn(&self) -> u64
+        ensures { result ≡ word_withdrawn self.now }
+    {
+        let word = self.loaded;
+        if !self.announced {
+            return word.saturating_sub(TURN);
+        }
+        let turn = if has_turn(word) { TURN } else { 0 };
+        let sleepers = if self.wakes_one() { SLEEPERS } else { 0 };
+        (word % TURN).saturating_sub(BAR) + turn + sleepers
+    }
+
     fn has_withdrawn(&mut self) -> Action
         ensures { (self.new, result) ≡ withdrawn self.old }
     {
         self.announced = false;
-        if self.loaded >= SLEEPERS {
+        self.turned = false;
+        if self.loaded >= SLEEPERS && !self.wakes_one() {
             self.to(Stage::WakeRefused, Action::WakeAll)
         } else {
             self.refused()
@@ -288,8 +398,10 @@ impl Call {
     {
         self.loaded = word;
         let (keeps, _) = released(self.readers, word, self.down);
-        let core = (word % SLEEPERS).saturating_sub(self.down.amount());
-        let left = if keeps { core + SLEEPERS } else { core };
+        let core = (word % TURN).saturating_sub(self.down.amount());
+        let turn = if has_turn(word) { TURN } else { 0 };
+        let sleepers = if keeps { SLEEPERS } else { 0 };
+        let left = core + turn + sleepers;
         self.left = left;
         self.to(Stage::Release, Action::Exchange(word, left))
     }
@@ -332,7 +444,44 @@ impl Call {
             Debt::One => self.to(Stage::Wake, Action::WakeOne),
             Debt::All => self.to(Stage::Wake, Action::WakeAll),
             Debt::Next => self.to(Stage::Wake, Action::WakeNext),
+            Debt::Turn => self.to(Stage::Wake, Action::WakeTurn),
         }
+    }
+}
+
+/// Returns whether T is set.
+fn has_turn(word: u64) -> bool
+    ensures { result ≡ has_turn word }
+{
+    word % SLEEPERS >= TURN
+}
+
+fn is_shared(want: ExWant) -> bool
+    ensures { result ≡ is_shared want }
+{
+    matches!(want, ExWant::Shared)
+}
+
+/// Returns whether the turn of readers lets a call pass.
+fn passes_turn(announced: bool, want: ExWant) -> bool
+    ensures { result ≡ passes_turn announced want }
+{
+    match want {
+        ExWant::Shared | ExWant::Upgrade => true,
+        ExWant::Exclusive => announced,
+        ExWant::Upgradable | ExWant::Announce => false,
+    }
+}
+
+/// Returns what a call that sleeps is to a wake-up.
+fn class_of(announced: bool, want: ExWant) -> Sleeper
+    ensures { result ≡ class_of announced want }
+{
+    match want {
+        _ if announced => Sleeper::Next,
+        ExWant::Upgrade => Sleeper::Next,
+        ExWant::Shared => Sleeper::Reader,
+        ExWant::Exclusive | ExWant::Upgradable | ExWant::Announce => Sleeper::Other,
     }
 }
 
@@ -349,7 +498,7 @@ pub fn alone_word(down: Down) -> u64
 {
     match down {
         Down::Shared => 1,
-        Down::Exclusive | Down::ToShared | Down::ToUpgradable => 8_589_934_592,
+        Down::Exclusive | Down::ToShared | Down::ToUpgradable => EXCLUSIVE,
         Down::Upgradable | Down::UpgradableToShared => 4_294_967_297,
         Down::Withdraw => BAR,
     }
@@ -362,10 +511,10 @@ fn released(readers: u64, word: u64, down: Down) -> (bool, Debt)
     if word < SLEEPERS {
         return (false, Debt::Nothing);
     }
-    let before = word % SLEEPERS;
+    let before = word % TURN;
     let after = before.saturating_sub(down.amount());
     let frees = if readers == 1 {
-        after == 0
+        after % BAR == 0
     } else {
         unblocks(
             readers,
@@ -377,7 +526,21 @@ fn released(readers: u64, word: u64, down: Down) -> (bool, Debt)
         return (true, Debt::Nothing);
     }
     if has_bar(after) {
-        return (true, Debt::Next);
+        return (true, debt_under_bar(readers, word));
+    }
+    if has_turn(word) {
+        return (true, Debt::Turn);
     }
     (false, if readers == 1 { Debt::One } else { Debt::All })
+}
+
+/// Returns the wake-up of a release of this word that leaves a bar. A writer that leaves no turn wakes the readers too.
+fn debt_under_bar(readers: u64, word: u64) -> Debt
+    ensures { result ≡ under_bar readers word }
+{
+    if readers == 1 || has_turn(word) || word % TURN % BAR < EXCLUSIVE {
+        Debt::Next
+    } else {
+        Debt::Turn
+    }
 }

@@ -1,9 +1,11 @@
 //! The laws of a lock of one word. Each is the contract of a function with an empty body.
 ghost use Rattle.lock_one.specs.Answers.{AnswersMatchHolds, FirstSteps, RefusalsHaveCauses};
+ghost use Rattle.lock_one.specs.Bars.{BarredCallsAreNext};
 ghost use Rattle.lock_one.specs.Rule.{StepsKeepParking};
 ghost use Rattle.lock_one.specs.Runs.{EveryRunIsServed};
 ghost use Rattle.lock_one.specs.Steps.{LastAccess, StepsKeepTheRule, SleepsKeepTheRule, NobodyIsForgotten};
 ghost use Rattle.lock_one.specs.Stored.{StoringKeepsWords};
+ghost use Rattle.lock_one.specs.Turn.{ReadersGetATurn};
 
 /// Each kind of step of any party keeps the rule by which no sleeper is forgotten.
 pub fn steps_keep_parking()
@@ -35,6 +37,20 @@ pub fn every_run_is_served()
     ensures { EveryRunIsServed }
 {}
 
+/// From the step that sets the bar of a call to the one that clears it, no other call acquires, except for an upgrade. Only
+/// the acquisition of that call clears its bar, or its withdrawal after its deadline. A call of a mutex sleeps at most four
+/// times without a bar, its own or another's. Another writer sleeps under a bar, or under the turn of readers.
+pub fn barred_calls_are_next()
+    ensures { BarredCallsAreNext }
+{}
+
+/// From the step that sets the turn of readers to the next acquisition by a reader, at most one other call acquires: the one
+/// that has set the bar. Only that acquisition clears the turn, or a withdrawal after a deadline. While it is set, a reader
+/// that has set it is in its call. A reader sleeps at most four times under a writer without it.
+pub fn readers_get_a_turn()
+    ensures { ReadersGetATurn }
+{}
+
 /// A call that ends with false has changed nothing, and one that ends with true has made its change. A try ends with false
 /// only on a word that refuses it.
 pub fn answers_match_holds()
@@ -52,7 +68,7 @@ pub fn first_steps()
     ensures { FirstSteps }
 {}
 
-/// Each word is stored as one number and read back as it was. Below 2^28 readers the number has 32 bits.
+/// Each word is stored as one number and read back as it was. Below 2^27 readers the number has 32 bits.
 pub fn storing_keeps_words()
     ensures { StoringKeepsWords }
 {}

@@ -1,7 +1,8 @@
 //! A lock of one word: the rule by which no wake-up is lost, and the machine of its calls.
 //!
-//! The word is the packed word of `lock_word` with one more bit, the bit of sleepers. A thread sets it before it sleeps on the
-//! word, and a release that finds it set wakes sleepers. After the exchange that releases, the call uses only the address of the
+//! The word is the packed word of `lock_word` with two more bits. A thread sets the bit of sleepers before it sleeps on the
+//! word, and a release that finds it set wakes sleepers. A reader that slept often sets the turn of readers. Then no writer
+//! acquires but the one that has set the bar, until a reader acquires. After the exchange that releases, the call uses only the address of the
 //! word, so another thread may free the word at once.
 #![tactic(auto)]
 
@@ -12,12 +13,12 @@ mod park;
 mod stage;
 mod storing;
 
-pub use action::Action;
-pub use call::{Call, SLEEPERS, alone_word, removes_reader};
+pub use action::{Action, Sleeper};
+pub use call::{Call, SLEEPERS, TURN, alone_word, removes_reader};
 pub use laws::{
-    answers_match_holds, every_run_is_served, first_steps, nobody_is_forgotten,
-    refusals_have_causes, releases_touch_no_more, sleeps_keep_the_rule, steps_keep_parking,
-    steps_keep_the_rule, storing_keeps_words,
+    answers_match_holds, barred_calls_are_next, every_run_is_served, first_steps,
+    nobody_is_forgotten, readers_get_a_turn, refusals_have_causes, releases_touch_no_more,
+    sleeps_keep_the_rule, steps_keep_parking, steps_keep_the_rule, storing_keeps_words,
 };
 pub use park::{Debt, Park, ParkLimits, ParkView};
 pub use stage::Stage;

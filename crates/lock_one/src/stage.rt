@@ -9,11 +9,11 @@ pub enum Stage {
     Try,
     /// A pause.
     Pause,
-    /// The exchange that sets the bit of sleepers, and the bar.
+    /// The exchange that sets the bit of sleepers, and the bar or the turn of readers.
     Mark,
     /// The sleep.
     Sleep,
-    /// The exchange that clears the bar of the call after its deadline.
+    /// The exchange that clears the bar of the call, or its turn, after its deadline.
     Withdraw,
     /// The exchange that sets the bit of sleepers of a mutex after the deadline of the call.
     Leave,
@@ -27,6 +27,8 @@ pub enum Stage {
     Wake,
     /// The wake-up after a withdrawal.
     WakeRefused,
+    /// The wake-up after an acquisition that took the turn.
+    WakeAcquired,
     /// No step: the call has acquired.
     Acquired,
     /// No step: the call is refused.

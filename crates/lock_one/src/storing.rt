@@ -4,20 +4,20 @@ ghost use Rattle.lock_one.specs.Stored.{stored_amount, stored_of, word_of_stored
 
 use lock_word::Down;
 
-/// Returns the number that a lock stores for the word: the flags are its bits 0 to 3, and the readers follow.
+/// Returns the number that a lock stores for the word: the flags are its bits 0 to 4, and the readers follow.
 ///
-/// A park compares the low 32 bits, so these hold the flags and 28 bits of readers.
+/// A park compares the low 32 bits, so these hold the flags and 27 bits of readers.
 pub fn to_stored(word: u64) -> u64
     ensures { result ≡ stored_of word }
 {
-    word / 4_294_967_296 + 16 * (word % 4_294_967_296)
+    word / 4_294_967_296 + 32 * (word % 4_294_967_296)
 }
 
 /// Returns the word that the number stores.
 pub fn from_stored(stored: u64) -> u64
     ensures { result ≡ word_of_stored stored }
 {
-    stored / 16 + 4_294_967_296 * (stored % 16)
+    stored / 32 + 4_294_967_296 * (stored % 32)
 }
 
 /// Returns what a release subtracts from the stored word, modulo 2^64. Modulo 2^32 the same bits serve a word of 32 bits.
@@ -25,12 +25,12 @@ pub fn stored_amount(down: Down) -> u64
     ensures { result ≡ stored_amount (2 ^ 64) down }
 {
     match down {
-        Down::Shared => 16,
+        Down::Shared => 32,
         Down::Exclusive => 2,
-        Down::Upgradable => 17,
+        Down::Upgradable => 33,
         // A downgrade adds a reader where it clears a flag.
-        Down::ToShared => 18_446_744_073_709_551_602,
-        Down::ToUpgradable => 18_446_744_073_709_551_601,
+        Down::ToShared => 18_446_744_073_709_551_586,
+        Down::ToUpgradable => 18_446_744_073_709_551_585,
         Down::UpgradableToShared => 1,
         Down::Withdraw => 4,
     }

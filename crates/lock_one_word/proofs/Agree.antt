@@ -1,5 +1,5 @@
 -- A step on the word is the machine's step, for each call of the party that asks for it.
-use Rattle.std.proofs.Common.{◌⊎◌, ◌≡◌, ℕ, ◌^◌, ◌<◌, Bool, true, inl, inr, List, slice_get, slice_set, Some, refl, sym, ap, subst, ◌∙◌}
+use Rattle.std.proofs.Common.{◌⊎◌, ◌≡◌, ℕ, ◌^◌, ◌<◌, true, inl, inr, List, slice_get, slice_set, Some, refl, sym, ap, subst, ◌∙◌}
 use Rattle.std.proofs.lemmas.Bool.{false≢true}
 use Rattle.lock_modes.specs.Limits.{IsLimit}
 use Rattle.lock_modes.specs.declared.hold.Hold.{Hold}
@@ -33,22 +33,24 @@ owes_none stage.Pause call v a s is = by a is.1
     by action.Load h = refl
     by (action.Exchange x y) h = refl
     by (action.Subtract d) h = refl
-    by (action.Park n f) h = refl
+    by (action.Park n c b) h = refl
     by action.WakeOne h = absurd h
     by action.WakeAll h = absurd h
     by action.WakeNext h = absurd h
+    by action.WakeTurn h = absurd h
     by (action.Spin n) h = refl
     by action.Yield h = refl
     by (action.End b) h = refl
 owes_none stage.Mark call v a s is = ap debt_at is.4
 owes_none stage.Sleep call v a s is = absurd (false≢true s)
-owes_none stage.Withdraw call v a s is = ap debt_at is.2
+owes_none stage.Withdraw call v a s is = ap debt_at is.4
 owes_none stage.Leave call v a s is = ap debt_at is.4
 owes_none stage.LookToRemove call v a s is = ap debt_at is.2
 owes_none stage.Subtract call v a s is = ap debt_at is.2
 owes_none stage.Release call v a s is = ap debt_at is.2
 owes_none stage.Wake call v a s is = absurd (false≢true s)
 owes_none stage.WakeRefused call v a s is = absurd (false≢true s)
+owes_none stage.WakeAcquired call v a s is = absurd (false≢true s)
 owes_none stage.Acquired call v a s is = absurd (false≢true s)
 owes_none stage.Refused call v a s is = absurd (false≢true s)
 owes_none stage.Ended call v a s is = absurd (false≢true s)
@@ -61,11 +63,11 @@ both_awake p (inl e) = e
 both_awake p (inr e) = e
 
 module _ (limit word : ℕ) (views : List ParkView) (k : ℕ) (h : Hold) (range : IsLimit limit) (keeps : Keeps (limits_in limit) word views)
-    (at : slice_get views k ≡ Some (placed h action.Load)) (small : word < 2 ^ 36) where
+    (at : slice_get views k ≡ Some (placed h action.Load)) (small : word < 2 ^ 37) where
   -- the machine's law of steps, for the party at k, which holds h
   pub law : (call : Call) (before : Hold) (task : Task) (a : Action) (readers : ℕ) → readers ≡ limit → is_step call.stage ≡ true
       → IsGoing (call, a) before task record { held = h; readers = readers }
-      → StepKept (limits_of call) call.slept Awake before (made a word) views k (next_of word call)
+      → StepKept (limits_of call) call.sleeps Awake before (made a word) views k (next_of word call)
   law call before task a readers known step going =
       let lock : limits_of call ≡ limits_in limit = ap limits_in (going.lock ∙ known) in
       let none : placed h a ≡ placed h action.Load
@@ -88,7 +90,7 @@ module _ (limit word : ℕ) (views : List ParkView) (k : ℕ) (h : Hold) (range 
       let is : st.you ≡ placed you next.1
       = same_view st.you you Awake (debt_at next.1) same (both_awake st.you.park st.parked) (owes_at next.0.stage next.0 st.you next.1 st.at) in
       record {
-        lock = ap (λ (p : ParkLimits × Bool). p.0.readers) st.same_lock ∙ going.lock;
+        lock = ap (λ (p : ParkLimits × ℕ). p.0.readers) st.same_lock ∙ going.lock;
         at = subst (λ (v : ParkView). IsAt next.0.stage next.0 v next.1) is st.at;
         held = sym same ∙ st.held;
         loaded = stays_small word call small going.loaded call.stage (marks call (placed h a) a going.at);

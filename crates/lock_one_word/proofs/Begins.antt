@@ -14,12 +14,10 @@ use Rattle.lock_one.specs.declared.call.Call.{Call}
 use Rattle.lock_one.specs.Machine.{Progress, acquiring, next_of}
 use Rattle.lock_one_word.specs.declared.rule.OneView.{OneView}
 use Rattle.lock_one_word.specs.Calls.{WordLockView, TokenView, IsTokenOf, token_of, one_hold}
-use Rattle.lock_one_word.specs.Drives.{IsTrying}
 use Rattle.lock_one_word.specs.Plays.{Goes}
 use Rattle.lock_one_word.specs.Seats.{Self, to_acquire, IsGoing}
 use Rattle.lock_one_word.proofs.Rests.{acquiring_first, acquired_end, refused_end}
 use Rattle.lock_one_word.proofs.Tokens.{acquires, awaits}
-use Rattle.lock_one_word.proofs.TryEnds.{looks}
 
 -- a call after its first load
 pub first_look : (readers found : ℕ) (wish : ExWant) (blocks : Bool) (me : Self) (begun next : Progress) → readers ≡ me.0.readers → me.0.held.announced ≡ false

@@ -1,13 +1,12 @@
 -- A call never changes whether it blocks, nor its lock.
-use Rattle.std.proofs.Common.{◌≡◌, ℕ, ◌+◌, ◌-◌, ◌^◌, Bool, true, false, not, ◌&&◌, ◌==◌, nat_lt, if◌then◌else◌, refl, ap, ◌∙◌}
-use Rattle.lock_word.specs.Word.{word_admits}
+use Rattle.std.proofs.Common.{◌≡◌, ℕ, ◌+◌, Bool, true, false, not, ◌&&◌, ◌||◌, ◌==◌, nat_lt, if◌then◌else◌, refl, ap, ◌∙◌}
 use Rattle.lock_one.specs.declared.action.Action.TheVariants as action
 use Rattle.lock_one.specs.declared.call.Call.{Call}
 use Rattle.lock_one.specs.declared.stage.Stage.{Stage}
 use Rattle.lock_one.specs.declared.stage.Stage.TheVariants as stage
 use Rattle.lock_one.specs.declared.park.Debt.{Debt}
 use Rattle.lock_one.specs.declared.park.Debt.TheVariants as debt
-use Rattle.lock_one.specs.Machine.{Progress, acquiring, core_of, has_sleepers, sleepers, wakes_one, pauses_before, exchanges_before, after_try, word_marked, sleep, mark_or_sleep, marked, time_out, withdrawn, refused, acquired, wait, decide, goes_to, release_on, release_of, release_again, subtract, wakes, next_at, next_of}
+use Rattle.lock_one.specs.Machine.{Progress, acquiring, admits_word, drops_turn, takes_turn, won, has_sleepers, sleepers, wakes_one, has_slept, word_withdrawn, pauses_before, exchanges_before, after_try, word_marked, sleep, mark_or_sleep, marked, time_out, withdrawn, refused, acquired, wait, decide, goes_to, release_on, release_of, release_again, subtract, wakes, next_at, next_of}
 use Rattle.lock_one_word.specs.declared.word_lock.steps.looked.Looked.{Looked}
 use Rattle.lock_one_word.specs.Drives.{Pending, at, looked_at}
 
@@ -26,13 +25,13 @@ marks call =
 
 times_out : (call : Call) → fixed (time_out call).0 ≡ fixed call
 times_out call =
-    either call.announced
-    (goes_to (record call { left = core_of call.loaded - 2 ^ 34 }) stage.Withdraw (action.Exchange call.loaded (core_of call.loaded - 2 ^ 34)))
-    (if wakes_one call && (call.slept && nat_lt call.loaded sleepers)
+    either (call.announced || drops_turn call)
+    (goes_to (record call { left = word_withdrawn call }) stage.Withdraw (action.Exchange call.loaded (word_withdrawn call)))
+    (if wakes_one call && (has_slept call && nat_lt call.loaded sleepers)
     then goes_to (record call { left = call.loaded + sleepers }) stage.Leave (action.Exchange call.loaded (call.loaded + sleepers))
     else refused call)
     call refl
-    (either (wakes_one call && (call.slept && nat_lt call.loaded sleepers))
+    (either (wakes_one call && (has_slept call && nat_lt call.loaded sleepers))
     (goes_to (record call { left = call.loaded + sleepers }) stage.Leave (action.Exchange call.loaded (call.loaded + sleepers))) (refused call) call refl refl)
 
 abbrev pauses : Call → Progress
@@ -46,7 +45,7 @@ waits call =
 
 decides : (word : ℕ) (call : Call) → fixed (decide word call).0 ≡ fixed call
 decides word call =
-    either (word_admits call.announced call.readers (core_of word) call.want)
+    either (admits_word call.announced call.readers word call.want)
     (goes_to (record call { loaded = word; left = after_try call word }) stage.Try (action.Exchange word (after_try call word)))
     (wait (record call { loaded = word })) call refl (waits (record call { loaded = word }))
 
@@ -55,6 +54,7 @@ owes debt.Nothing call = refl
 owes debt.One call = refl
 owes debt.All call = refl
 owes debt.Next call = refl
+owes debt.Turn call = refl
 
 releases : (word : ℕ) (call : Call) → fixed (release_again word call).0 ≡ fixed call
 releases word call =
@@ -62,13 +62,15 @@ releases word call =
 
 next : (st : Stage) (found : ℕ) (call : Call) → fixed (next_at st found call).0 ≡ fixed call
 next stage.Look found call = decides found call
-next stage.Try found call = either (found == call.loaded) (acquired call) (decide found call) call refl (decides found call)
+next stage.Try found call =
+    either (found == call.loaded) (won call) (decide found call) call
+    (either (takes_turn call call.loaded && has_sleepers call.loaded) (goes_to call stage.WakeAcquired action.WakeAll) (acquired call) call refl refl) (decides found call)
 next stage.Pause found call = refl
 next stage.Mark found call = either (found == call.loaded) (marked call) (decide found call) call refl (decides found call)
 next stage.Sleep found call = refl
 next stage.Withdraw found call =
     either (found == call.loaded) (withdrawn call) (decide found call) call
-    (either (has_sleepers call.loaded) (goes_to (record call { announced = false }) stage.WakeRefused action.WakeAll) (refused (record call { announced = false })) call refl refl)
+    (either (has_sleepers call.loaded && not (wakes_one call)) (goes_to (record call { announced = false; turned = false }) stage.WakeRefused action.WakeAll) (refused (record call { announced = false; turned = false })) call refl refl)
     (decides found call)
 next stage.Leave found call = either (found == call.loaded) (refused call) (decide found call) call refl (decides found call)
 next stage.LookToRemove found call = either (has_sleepers found) (release_on found call) (subtract call) call refl refl
@@ -78,6 +80,7 @@ next stage.Release found call =
     (owes (release_of call.readers call.loaded call.down).1 call) (releases found call)
 next stage.Wake found call = refl
 next stage.WakeRefused found call = refl
+next stage.WakeAcquired found call = refl
 next stage.Acquired found call = refl
 next stage.Refused found call = refl
 next stage.Ended found call = refl

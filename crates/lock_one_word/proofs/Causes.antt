@@ -4,11 +4,10 @@ use Rattle.std.proofs.lemmas.Bool.{false≢true, true≢false}
 use Rattle.lock_modes.specs.declared.hold.Hold.{Hold}
 use Rattle.lock_word.specs.declared.want.ExWant.{ExWant}
 use Rattle.lock_word.specs.declared.down.Down.{Down}
-use Rattle.lock_word.specs.Word.{word_admits}
 use Rattle.lock_one.specs.declared.action.Action.{Action}
 use Rattle.lock_one.specs.declared.action.Action.TheVariants.{End}
 use Rattle.lock_one.specs.declared.call.Call.{Call}
-use Rattle.lock_one.specs.Machine.{Progress, core_of, acquiring, taking, next_of}
+use Rattle.lock_one.specs.Machine.{Progress, admits_word, acquiring, taking, next_of}
 use Rattle.lock_one.specs.Rule.{is_upgrade}
 use Rattle.lock_one.specs.Answers.{IsLate, HasCause, CauseAt}
 use Rattle.lock_one.proofs.Answers.{ends_not}
@@ -39,7 +38,7 @@ cause_by call v before wish e going known readers word =
                 (let cause = subst (λ st. CauseAt st call) refused.0 known.cause in
                 let wants : call.want ≡ wish = ap (λ (t : Task). t.0) going.tasked in
                 elim cause [
-                  | inl by ↦ inl (by.0, (λ i. word_admits false (sym going.lock i) (core_of (word i)) (sym wants i)) ∙ by.1)
+                  | inl by ↦ inl (by.0, (λ i. admits_word false (sym going.lock i) (word i) (sym wants i)) ∙ by.1)
                   | inr late ↦ inr late
                 ])
             | inr ended ↦ absurd (false≢true ended.1)

@@ -1,10 +1,7 @@
--- The number that a call found last is below 2^36.
-use Rattle.std.proofs.Common.{◌≡◌, ℕ, ◌+◌, ◌-◌, ◌^◌, ◌<◌, Bool, true, false, not, ◌&&◌, ◌||◌, ◌==◌, inl, inr, IsTrue, nat_lt, if◌then◌else◌, refl, sym, ap, subst, arith, ltb-true}
+-- The number that a call found last is below 2^37.
+use Rattle.std.proofs.Common.{◌≡◌, ℕ, ◌+◌, ◌-◌, ◌%◌, ◌^◌, ◌<◌, Bool, true, false, not, ◌&&◌, ◌||◌, ◌==◌, nat_lt, if◌then◌else◌, refl, sym, ap, subst, arith, ltb-true}
 use Rattle.std.proofs.lemmas.Bool.{and_parts, false≢true}
-use Rattle.lock_word.specs.declared.want.ExWant.{ExWant}
-use Rattle.lock_word.specs.declared.want.ExWant.TheVariants as want
-use Rattle.lock_word.specs.Word.{word_admits, word_after, readers_of_word, amount}
-use Rattle.lock_word.proofs.Words.{both_below, one_of}
+use Rattle.lock_word.specs.Word.{word_admits, word_after, amount}
 use Rattle.lock_one.specs.declared.action.Action.{Action}
 use Rattle.lock_one.specs.declared.action.Action.TheVariants as action
 use Rattle.lock_one.specs.declared.call.Call.{Call}
@@ -13,8 +10,11 @@ use Rattle.lock_one.specs.declared.stage.Stage.TheVariants as stage
 use Rattle.lock_one.specs.declared.park.ParkView.{ParkView}
 use Rattle.lock_one.specs.declared.park.Debt.{Debt}
 use Rattle.lock_one.specs.declared.park.Debt.TheVariants as debt
-use Rattle.lock_one.specs.Machine.{Progress, core_of, has_sleepers, with_sleepers, sleepers, wakes_one, is_exclusive, sleep, sets_bar, word_marked, mark_or_sleep, marked, time_out, withdrawn, wait, after_try, decide, release_of, word_released, release_on, subtract, release_again, wakes, acquired, refused, goes_to, next_at}
+use Rattle.lock_one.specs.Machine.{Progress, turn, core_of, has_turn, has_sleepers, with_turn, admits_word, drops_turn, takes_turn, after_other, won, sets_turn, word_unbarred, sleepers, wakes_one, has_slept, is_due, word_withdrawn, is_exclusive, sleep, sets_bar, word_marked, mark_or_sleep, marked, time_out, withdrawn, wait, after_try, decide, release_of, word_released, release_on, subtract, release_again, wakes, acquired, refused, goes_to, next_at}
+use Rattle.lock_one.specs.Rule.{passes_turn}
 use Rattle.lock_one.specs.Steps.{IsAt, is_step}
+use Rattle.lock_one.proofs.RunTurns.{after_small}
+use Rattle.lock_one.proofs.Steps.{encoded_small}
 
 abbrev loaded : Progress → ℕ
 loaded p = p.0.loaded
@@ -27,9 +27,9 @@ waits call = by (word_marked call == call.loaded)
     by false = refl
 
 times_out : (call : Call) → loaded (time_out call) ≡ call.loaded
-times_out call = by call.announced (wakes_one call && (call.slept && nat_lt call.loaded sleepers))
+times_out call = by (call.announced || drops_turn call) (wakes_one call && (has_slept call && nat_lt call.loaded sleepers))
   where
-    by : (b c : Bool) → loaded (if b then goes_to (record call { left = core_of call.loaded - 2 ^ 34 }) stage.Withdraw (action.Exchange call.loaded (core_of call.loaded - 2 ^ 34))
+    by : (b c : Bool) → loaded (if b then goes_to (record call { left = word_withdrawn call }) stage.Withdraw (action.Exchange call.loaded (word_withdrawn call))
         else if c then goes_to (record call { left = call.loaded + sleepers }) stage.Leave (action.Exchange call.loaded (call.loaded + sleepers)) else refused call) ≡ call.loaded
     by true c = refl
     by false true = refl
@@ -46,7 +46,7 @@ rests call = by call.blocks call.late (nat_lt call.pauses 6)
     by true false false = waits call
 
 decides : (word : ℕ) (call : Call) → loaded (decide word call) ≡ word
-decides word call = by (word_admits call.announced call.readers (core_of word) call.want)
+decides word call = by (admits_word call.announced call.readers word call.want)
   where
     by : (b : Bool) → loaded (if b then goes_to (record call { loaded = word; left = after_try call word }) stage.Try (action.Exchange word (after_try call word)) else wait (record call { loaded = word })) ≡ word
     by true = refl
@@ -57,78 +57,80 @@ wakes_up debt.Nothing call = refl
 wakes_up debt.One call = refl
 wakes_up debt.All call = refl
 wakes_up debt.Next call = refl
+wakes_up debt.Turn call = refl
 
-withdraws : (call : Call) → loaded (withdrawn call) ≡ call.loaded
-withdraws call = by (has_sleepers call.loaded)
+wins : (call : Call) → loaded (won call) ≡ call.loaded
+wins call = by (takes_turn call call.loaded && has_sleepers call.loaded)
   where
-    by : (b : Bool) → loaded (if b then goes_to (record call { announced = false }) stage.WakeRefused action.WakeAll else refused (record call { announced = false })) ≡ call.loaded
+    by : (b : Bool) → loaded (if b then goes_to call stage.WakeAcquired action.WakeAll else acquired call) ≡ call.loaded
     by true = refl
     by false = refl
 
-marked_small : (call : Call) → word_marked call < 2 ^ 36
-marked_small call = by (sets_bar call) refl
+withdraws : (call : Call) → loaded (withdrawn call) ≡ call.loaded
+withdraws call = by (has_sleepers call.loaded && not (wakes_one call))
   where
-    by : (b : Bool) → sets_bar call ≡ b → core_of call.loaded + (if b then 2 ^ 34 else 0) + sleepers < 2 ^ 36
-    by true e =
-        let first = and_parts call.announces (is_exclusive call.want && (not call.announced && (not (wakes_one call) && nat_lt (core_of call.loaded) (2 ^ 34)))) e in
-        let exclusive = and_parts (is_exclusive call.want) (not call.announced && (not (wakes_one call) && nat_lt (core_of call.loaded) (2 ^ 34))) first.1 in
-        let two = and_parts (not call.announced) (not (wakes_one call) && nat_lt (core_of call.loaded) (2 ^ 34)) exclusive.1 in
-        let three = and_parts (not (wakes_one call)) (nat_lt (core_of call.loaded) (2 ^ 34)) two.1 in
-        let low : core_of call.loaded < 2 ^ 34 = ltb-true (core_of call.loaded) (2 ^ 34) three.1 in
+    by : (b : Bool) → loaded (if b then goes_to (record call { announced = false; turned = false }) stage.WakeRefused action.WakeAll else refused (record call { announced = false; turned = false })) ≡ call.loaded
+    by true = refl
+    by false = refl
+
+marked_small : (call : Call) → word_marked call < 2 ^ 37
+marked_small call = with_bits (core_of call.loaded + (if sets_bar call then 2 ^ 34 else 0)) (has_turn call.loaded || sets_turn call) (fits (sets_bar call) refl)
+  where
+    fits : (b : Bool) → sets_bar call ≡ b → core_of call.loaded + (if b then 2 ^ 34 else 0) < 2 ^ 35
+    fits true e =
+        let first = and_parts call.announces (is_exclusive call.want && (not call.announced && (is_due call && nat_lt (call.loaded % sleepers) (2 ^ 34)))) e in
+        let exclusive = and_parts (is_exclusive call.want) (not call.announced && (is_due call && nat_lt (call.loaded % sleepers) (2 ^ 34))) first.1 in
+        let two = and_parts (not call.announced) (is_due call && nat_lt (call.loaded % sleepers) (2 ^ 34)) exclusive.1 in
+        let three = and_parts (is_due call) (nat_lt (call.loaded % sleepers) (2 ^ 34)) two.1 in
+        let low : call.loaded % sleepers < 2 ^ 34 = ltb-true (call.loaded % sleepers) (2 ^ 34) three.1 in
         omega arith
-    by false e = omega arith
+    fits false e = omega arith
 
--- the loaded number stays below 2^36 if each number that the call finds is
-module _ (found : ℕ) (call : Call) (small : found < 2 ^ 36) (was : call.loaded < 2 ^ 36) where
-  decided : (b : Bool) (next : Progress) → loaded next ≡ call.loaded → loaded (if b then next else decide found call) < 2 ^ 36
-  decided true next e = subst (λ n. n < 2 ^ 36) (sym e) was
-  decided false next e = subst (λ n. n < 2 ^ 36) (sym (decides found call)) small
+    with_bits : (core : ℕ) (t : Bool) → core < 2 ^ 35 → with_turn core t + sleepers < 2 ^ 37
+    with_bits core true low = omega arith
+    with_bits core false low = omega arith
 
-  again : (b : Bool) → loaded (if b then release_on found (record call { pauses = call.pauses + 1 }) else subtract call) < 2 ^ 36
+-- the loaded number stays below 2^37 if each number that the call finds is
+module _ (found : ℕ) (call : Call) (small : found < 2 ^ 37) (was : call.loaded < 2 ^ 37) where
+  decided : (b : Bool) (next : Progress) → loaded next ≡ call.loaded → loaded (if b then next else decide found call) < 2 ^ 37
+  decided true next e = subst (λ n. n < 2 ^ 37) (sym e) was
+  decided false next e = subst (λ n. n < 2 ^ 37) (sym (decides found call)) small
+
+  again : (b : Bool) → loaded (if b then release_on found (record call { pauses = call.pauses + 1 }) else subtract call) < 2 ^ 37
   again true = small
   again false = was
 
-  marking : (b : Bool) → call.left ≡ word_marked call → loaded (if b then marked call else decide found call) < 2 ^ 36
-  marking true left = subst (λ n. n < 2 ^ 36) (sym left) (marked_small call)
-  marking false left = subst (λ n. n < 2 ^ 36) (sym (decides found call)) small
+  marking : (b : Bool) → call.left ≡ word_marked call → loaded (if b then marked call else decide found call) < 2 ^ 37
+  marking true left = subst (λ n. n < 2 ^ 37) (sym left) (marked_small call)
+  marking false left = subst (λ n. n < 2 ^ 37) (sym (decides found call)) small
 
-  releasing : (b : Bool) → loaded (if b then wakes (release_of call.readers call.loaded call.down).1 call else release_again found call) < 2 ^ 36
-  releasing true = subst (λ n. n < 2 ^ 36) (sym (wakes_up (release_of call.readers call.loaded call.down).1 call)) was
+  releasing : (b : Bool) → loaded (if b then wakes (release_of call.readers call.loaded call.down).1 call else release_again found call) < 2 ^ 37
+  releasing true = subst (λ n. n < 2 ^ 37) (sym (wakes_up (release_of call.readers call.loaded call.down).1 call)) was
   releasing false = again (nat_lt call.pauses 8)
 
-  looking : (b : Bool) → loaded (if b then release_on found call else subtract call) < 2 ^ 36
+  looking : (b : Bool) → loaded (if b then release_on found call else subtract call) < 2 ^ 37
   looking true = small
   looking false = was
 
-  pub stays_small : (st : Stage) → (st ≡ stage.Mark → call.left ≡ word_marked call) → loaded (next_at st found call) < 2 ^ 36
-  stays_small stage.Look left = subst (λ n. n < 2 ^ 36) (sym (decides found call)) small
-  stays_small stage.Try left = decided (found == call.loaded) (acquired call) refl
+  pub stays_small : (st : Stage) → (st ≡ stage.Mark → call.left ≡ word_marked call) → loaded (next_at st found call) < 2 ^ 37
+  stays_small stage.Look left = subst (λ n. n < 2 ^ 37) (sym (decides found call)) small
+  stays_small stage.Try left = decided (found == call.loaded) (won call) (wins call)
   stays_small stage.Pause left = was
   stays_small stage.Mark left = marking (found == call.loaded) (left refl)
   stays_small stage.Sleep left = was
   stays_small stage.Withdraw left = decided (found == call.loaded) (withdrawn call) (withdraws call)
   stays_small stage.Leave left = decided (found == call.loaded) (refused call) refl
   stays_small stage.LookToRemove left = looking (has_sleepers found)
-  stays_small stage.Subtract left = subst (λ n. n < 2 ^ 36) (sym (wakes_up (release_of call.readers found call.down).1 call)) was
+  stays_small stage.Subtract left = subst (λ n. n < 2 ^ 37) (sym (wakes_up (release_of call.readers found call.down).1 call)) was
   stays_small stage.Release left = releasing (found == call.loaded)
   stays_small stage.Wake left = was
   stays_small stage.WakeRefused left = was
+  stays_small stage.WakeAcquired left = was
   stays_small stage.Acquired left = was
   stays_small stage.Refused left = was
   stays_small stage.Ended left = was
 
--- both numbers of an exchange are below 2^36
-after_small : (a : Bool) (limit core : ℕ) (wish : ExWant) → IsTrue (word_admits a limit core wish) → core < 2 ^ 35 → word_after core wish < 2 ^ 35
-after_small a limit core want.Shared h small = let two = both_below core (2 ^ 33) (readers_of_word core) limit h in let low = two.0 in omega arith
-after_small a limit core want.Exclusive h small = omega arith
-after_small a limit core want.Upgradable h small = let two = both_below core (2 ^ 32) (readers_of_word core) limit h in let low = two.0 in omega arith
-after_small a limit core want.Upgrade h small = elim (one_of core (2 ^ 32 + 1) (2 ^ 34 + 2 ^ 32 + 1) h) [ inl e ↦ omega arith | inr e ↦ omega arith ]
-after_small a limit core want.Announce h small = let low = ltb-true core (2 ^ 34) h in omega arith
-
-with_small : (core : ℕ) (b : Bool) → core < 2 ^ 35 → with_sleepers core b < 2 ^ 36
-with_small core true low = omega arith
-with_small core false low = omega arith
-
+-- both numbers of an exchange are below 2^37
 first_of : Action → ℕ
 first_of (action.Exchange x y) = x
 first_of other = 0
@@ -138,23 +140,34 @@ second_of (action.Exchange x y) = y
 second_of other = 0
 
 abbrev AreSmall : ℕ → ℕ → Type 0
-AreSmall old new = (old < 2 ^ 36) × (new < 2 ^ 36)
+AreSmall old new = (old < 2 ^ 37) × (new < 2 ^ 37)
 
-are_small : (old new x y : ℕ) → action.Exchange old new ≡ action.Exchange x y → x < 2 ^ 36 → y < 2 ^ 36 → AreSmall old new
+are_small : (old new x y : ℕ) → action.Exchange old new ≡ action.Exchange x y → x < 2 ^ 37 → y < 2 ^ 37 → AreSmall old new
 unfolding first_of second_of
-are_small old new x y e a b = (subst (λ n. n < 2 ^ 36) (sym (ap first_of e)) a, subst (λ n. n < 2 ^ 36) (sym (ap second_of e)) b)
+are_small old new x y e a b = (subst (λ n. n < 2 ^ 37) (sym (ap first_of e)) a, subst (λ n. n < 2 ^ 37) (sym (ap second_of e)) b)
 
-pub exchange_small : (st : Stage) (call : Call) (v : ParkView) (old new : ℕ) → is_step st ≡ true → call.loaded < 2 ^ 36
+pub exchange_small : (st : Stage) (call : Call) (v : ParkView) (old new : ℕ) → is_step st ≡ true → call.loaded < 2 ^ 37
     → IsAt st call v (action.Exchange old new) → AreSmall old new
 exchange_small stage.Look call v old new s low is = let e = is.1 in cc
 exchange_small stage.Try call v old new s low is =
     are_small old new call.loaded (after_try call call.loaded) is.2 low
-    (with_small (word_after (core_of call.loaded) call.want) (has_sleepers call.loaded || (wakes_one call && call.slept))
-    (after_small call.announced call.readers (core_of call.loaded) call.want is.1 (omega arith)))
+    (tried_small (takes_turn call call.loaded)
+    (after_small call.announced call.readers (core_of call.loaded) call.want
+    (and_parts (word_admits call.announced call.readers (core_of call.loaded) call.want) (not (has_turn call.loaded) || passes_turn call.announced call.want) is.1).0 (omega arith)))
+  where
+    tried_small : (b : Bool) → word_after (core_of call.loaded) call.want < 2 ^ 35
+        → (if b then word_after (core_of call.loaded) call.want else after_other call call.loaded) < 2 ^ 37
+    tried_small true fits = omega arith
+    tried_small false fits = encoded_small (word_after (core_of call.loaded) call.want) (has_turn call.loaded) (has_sleepers call.loaded || (wakes_one call && has_slept call)) fits
 exchange_small stage.Pause call v old new s low is = absurd is.1
 exchange_small stage.Mark call v old new s low is = are_small old new call.loaded (word_marked call) is.4 low (marked_small call)
 exchange_small stage.Sleep call v old new s low is = absurd (false≢true s)
-exchange_small stage.Withdraw call v old new s low is = are_small old new call.loaded (core_of call.loaded - 2 ^ 34) is.2 low (omega arith)
+exchange_small stage.Withdraw call v old new s low is =
+    are_small old new call.loaded (word_withdrawn call) is.4 low (withdrawn_small call.announced)
+  where
+    withdrawn_small : (b : Bool) → (if b then word_unbarred call else call.loaded - turn) < 2 ^ 37
+    withdrawn_small true = let less : core_of call.loaded - 2 ^ 34 < 2 ^ 35 = omega arith in encoded_small (core_of call.loaded - 2 ^ 34) (has_turn call.loaded) (wakes_one call) less
+    withdrawn_small false = omega arith
 exchange_small stage.Leave call v old new s low is =
     let below = is.3 in
     are_small old new call.loaded (call.loaded + sleepers) is.4 low (omega arith)
@@ -162,9 +175,11 @@ exchange_small stage.LookToRemove call v old new s low is = let e = is.2 in cc
 exchange_small stage.Subtract call v old new s low is = let e = is.2 in cc
 exchange_small stage.Release call v old new s low is =
     are_small old new call.loaded (word_released call.readers call.loaded call.down) is.2 low
-    (with_small (core_of call.loaded - amount call.down) (release_of call.readers call.loaded call.down).0 (omega arith))
+    (let less : core_of call.loaded - amount call.down < 2 ^ 35 = omega arith in
+    encoded_small (core_of call.loaded - amount call.down) (has_turn call.loaded) (release_of call.readers call.loaded call.down).0 less)
 exchange_small stage.Wake call v old new s low is = absurd (false≢true s)
 exchange_small stage.WakeRefused call v old new s low is = absurd (false≢true s)
+exchange_small stage.WakeAcquired call v old new s low is = absurd (false≢true s)
 exchange_small stage.Acquired call v old new s low is = absurd (false≢true s)
 exchange_small stage.Refused call v old new s low is = absurd (false≢true s)
 exchange_small stage.Ended call v old new s low is = absurd (false≢true s)

@@ -45,7 +45,7 @@ keeps_resting limit word views id you v held was =
         coded = subst (λ h. core_of word ≡ word_of (all_of h)) (sym hs) was.kept.coded;
         legal = subst (λ h. IsLegalBarredBag limit (all_of h)) (sym hs) was.kept.legal;
         one_token = was.kept.one_token;
-        no_bar = was.kept.no_bar;
+        no_turn = was.kept.no_turn;
         entitled = λ k p want is asleep. absurd (awake k p want is asleep);
         none_forgotten = λ k p want is asleep. absurd (awake k p want is asleep);
       };

@@ -25,6 +25,7 @@ wakes_last debt.Nothing call = omega arith
 wakes_last debt.One call = omega arith
 wakes_last debt.All call = omega arith
 wakes_last debt.Next call = omega arith
+wakes_last debt.Turn call = omega arith
 
 module _ (found : ℕ) (call : Call) where
   again : (b : Bool) → nat_lt call.pauses 8 ≡ b
@@ -54,6 +55,7 @@ module _ (found : ℕ) (call : Call) where
   less stage.Withdraw r on = absurd (false≢true r)
   less stage.Leave r on = absurd (false≢true r)
   less stage.WakeRefused r on = absurd (false≢true r)
+  less stage.WakeAcquired r on = absurd (false≢true r)
   less stage.Acquired r on = absurd (false≢true r)
   less stage.Refused r on = absurd (false≢true r)
 
@@ -78,6 +80,7 @@ has_ended call a before d v off going = by call.stage (ap (λ (t : Task). t.2) g
         woken debt.One e = absurd (true≢false (sym (ap touches_lock e) ∙ off))
         woken debt.All e = absurd (true≢false (sym (ap touches_lock e) ∙ off))
         woken debt.Next e = absurd (true≢false (sym (ap touches_lock e) ∙ off))
+        woken debt.Turn e = absurd (true≢false (sym (ap touches_lock e) ∙ off))
     by stage.Ended r is = is.1
     by stage.Look r is = absurd (false≢true r)
     by stage.Try r is = absurd (false≢true r)
@@ -87,5 +90,6 @@ has_ended call a before d v off going = by call.stage (ap (λ (t : Task). t.2) g
     by stage.Withdraw r is = absurd (false≢true r)
     by stage.Leave r is = absurd (false≢true r)
     by stage.WakeRefused r is = absurd (false≢true r)
+    by stage.WakeAcquired r is = absurd (false≢true r)
     by stage.Acquired r is = absurd (false≢true r)
     by stage.Refused r is = absurd (false≢true r)

@@ -17,14 +17,16 @@ use Rattle.lock_one.specs.declared.stage.Stage.TheVariants as stage
 use Rattle.lock_one.specs.declared.park.ParkView.{ParkView}
 use Rattle.lock_one.specs.declared.park.Park.TheVariants.{Awake}
 use Rattle.lock_one.specs.declared.park.Debt.TheVariants as debt
-use Rattle.lock_one.specs.Machine.{Progress, wakes_one, acquiring, taking, removes_reader, begun, goes_to, release_on, alone, next_at, next_of}
+use Rattle.lock_one.specs.Machine.{Progress, is_due, acquiring, taking, removes_reader, begun, goes_to, release_on, alone, next_at, next_of}
 use Rattle.lock_one.specs.Runs.{debt_at}
 use Rattle.lock_one.specs.Steps.{ends, Acquires, IsAt, IsWake, hold_at}
 use Rattle.lock_one.proofs.Actions.{on_word}
 use Rattle.lock_one.proofs.Answers.{answers_match_holds}
 use Rattle.lock_one.proofs.RunViews.{quiet_sleep, same_view}
+use Rattle.lock_one.proofs.Sleeps.{after_sleep}
 use Rattle.lock_one_word.specs.declared.rule.OneView.{OneView}
-use Rattle.lock_one_word.specs.Seats.{placed, Task, to_acquire, to_release, releases, IsGoing}
+use Rattle.lock_one_word.specs.Drives.{Pending, at, GoesOn}
+use Rattle.lock_one_word.specs.Seats.{Self, placed, Task, to_acquire, to_release, releases, IsGoing}
 use Rattle.lock_one_word.proofs.Tasks.{keeps_task, is_on}
 
 abbrev IsOn : Progress → Hold → Hold → Type 0
@@ -41,10 +43,11 @@ after stage.Pause call held before a found is h off on = by a is
     by action.Load is = absurd is.1
     by (action.Exchange x y) is = absurd is.1
     by (action.Subtract d) is = absurd is.1
-    by (action.Park n f) is = absurd is.1
+    by (action.Park n c b) is = absurd is.1
     by action.WakeOne is = absurd is.1
     by action.WakeAll is = absurd is.1
     by action.WakeNext is = absurd is.1
+    by action.WakeTurn is = absurd is.1
     by (action.Spin n) is = ((is.0, refl), h)
     by action.Yield is = absurd is.1
     by (action.End b) is = absurd is.1
@@ -52,16 +55,17 @@ after stage.Mark call held before a found is h off on = absurd (true≢false (sy
 after stage.Sleep call held before a found is h off on =
     let owes_none : debt_at a ≡ debt.Nothing = ap debt_at is.5 ∙ (quiet_sleep call).0 in
     let same : placed held a ≡ placed held action.Load = same_view (placed held a) held Awake debt.Nothing refl refl owes_none in
-    let acq : Acquires call.want call.announced true call.blocks (wakes_one call) (placed held action.Load)
-    = subst (λ (v : ParkView). Acquires call.want call.announced true call.blocks (wakes_one call) v) same is.0 in
-    (((acq, refl), refl), h)
-after stage.Withdraw call held before a found is h off on = absurd (true≢false (sym (ap on_word is.2) ∙ off))
+    let acq : Acquires call.want call.announced call.turned true call.blocks (is_due call) (placed held action.Load)
+    = subst (λ (v : ParkView). Acquires call.want call.announced call.turned true call.blocks (is_due call) v) same is.0 in
+    (((after_sleep call found (placed held action.Load) Awake acq is.2, refl), refl), h)
+after stage.Withdraw call held before a found is h off on = absurd (true≢false (sym (ap on_word is.4) ∙ off))
 after stage.Leave call held before a found is h off on = absurd (true≢false (sym (ap on_word is.4) ∙ off))
 after stage.LookToRemove call held before a found is h off on = absurd (true≢false (sym (ap on_word is.2) ∙ off))
 after stage.Subtract call held before a found is h off on = absurd (true≢false (sym (ap on_word is.2) ∙ off))
 after stage.Release call held before a found is h off on = absurd (true≢false (sym (ap on_word is.2) ∙ off))
 after stage.Wake call held before a found is h off on = (((refl, refl), refl), h)
 after stage.WakeRefused call held before a found is h off on = (((refl, refl), refl), h)
+after stage.WakeAcquired call held before a found is h off on = (((refl, refl), refl, is.3), h)
 after stage.Acquired call held before a found is h off on = absurd (true≢false (sym (ap ends is.1) ∙ on))
 after stage.Refused call held before a found is h off on = absurd (true≢false (sym (ap ends is.1) ∙ on))
 after stage.Ended call held before a found is h off on = absurd (true≢false (sym (ap ends is.1) ∙ on))
@@ -79,6 +83,7 @@ not_over stage.Subtract call v a is on = refl
 not_over stage.Release call v a is on = refl
 not_over stage.Wake call v a is on = refl
 not_over stage.WakeRefused call v a is on = refl
+not_over stage.WakeAcquired call v a is on = refl
 not_over stage.Acquired call v a is on = absurd (true≢false (sym (ap ends is.1) ∙ on))
 not_over stage.Refused call v a is on = absurd (true≢false (sym (ap ends is.1) ∙ on))
 not_over stage.Ended call v a is on = absurd (true≢false (sym (ap ends is.1) ∙ on))
@@ -102,30 +107,32 @@ rests call a before task v found off on going =
     same_readers stage.Pause off is = refl
     same_readers stage.Mark off is = absurd (true≢false (sym (ap on_word is.4) ∙ off))
     same_readers stage.Sleep off is = refl
-    same_readers stage.Withdraw off is = absurd (true≢false (sym (ap on_word is.2) ∙ off))
+    same_readers stage.Withdraw off is = absurd (true≢false (sym (ap on_word is.4) ∙ off))
     same_readers stage.Leave off is = absurd (true≢false (sym (ap on_word is.4) ∙ off))
     same_readers stage.LookToRemove off is = absurd (true≢false (sym (ap on_word is.2) ∙ off))
     same_readers stage.Subtract off is = absurd (true≢false (sym (ap on_word is.2) ∙ off))
     same_readers stage.Release off is = absurd (true≢false (sym (ap on_word is.2) ∙ off))
     same_readers stage.Wake off is = refl
     same_readers stage.WakeRefused off is = refl
+    same_readers stage.WakeAcquired off is = refl
     same_readers stage.Acquired off is = refl
     same_readers stage.Refused off is = refl
     same_readers stage.Ended off is = refl
 
-    same_loaded : (st : Stage) → on_word a ≡ false → IsAt st call (placed v.held a) a → (next_at st found call).0.loaded < 2 ^ 36
+    same_loaded : (st : Stage) → on_word a ≡ false → IsAt st call (placed v.held a) a → (next_at st found call).0.loaded < 2 ^ 37
     same_loaded stage.Look off is = absurd (true≢false (sym (ap on_word is.1) ∙ off))
     same_loaded stage.Try off is = absurd (true≢false (sym (ap on_word is.2) ∙ off))
     same_loaded stage.Pause off is = going.loaded
     same_loaded stage.Mark off is = absurd (true≢false (sym (ap on_word is.4) ∙ off))
     same_loaded stage.Sleep off is = going.loaded
-    same_loaded stage.Withdraw off is = absurd (true≢false (sym (ap on_word is.2) ∙ off))
+    same_loaded stage.Withdraw off is = absurd (true≢false (sym (ap on_word is.4) ∙ off))
     same_loaded stage.Leave off is = absurd (true≢false (sym (ap on_word is.4) ∙ off))
     same_loaded stage.LookToRemove off is = absurd (true≢false (sym (ap on_word is.2) ∙ off))
     same_loaded stage.Subtract off is = absurd (true≢false (sym (ap on_word is.2) ∙ off))
     same_loaded stage.Release off is = absurd (true≢false (sym (ap on_word is.2) ∙ off))
     same_loaded stage.Wake off is = going.loaded
     same_loaded stage.WakeRefused off is = going.loaded
+    same_loaded stage.WakeAcquired off is = going.loaded
     same_loaded stage.Acquired off is = going.loaded
     same_loaded stage.Refused off is = going.loaded
     same_loaded stage.Ended off is = going.loaded
@@ -146,9 +153,10 @@ acquiring_first readers wish blocks announces v lock awaited has clean =
             bar = sym clean;
             owes_none = refl;
             woken = λ w. absurd (false≢true w);
-            tries = λ b. (refl, refl);
-            no_bar = λ a. absurd (false≢true a);
+            tries = λ b. (refl, refl, refl);
+            patient = λ a. absurd (false≢true a);
             writer = λ a. absurd (false≢true a);
+            reader = λ a. absurd (false≢true a);
           },
           refl,
         ),
@@ -159,7 +167,7 @@ acquiring_first readers wish blocks announces v lock awaited has clean =
       tasked = refl;
     }
 
-alone_small : (d : Down) → alone d < 2 ^ 36
+alone_small : (d : Down) → alone d < 2 ^ 37
 alone_small down.Shared = omega arith
 alone_small down.Exclusive = omega arith
 alone_small down.Upgradable = omega arith
@@ -220,13 +228,14 @@ acquired_end call before wish v clean awaited going = by call.stage refl going.a
     by stage.Pause e is h = absurd is.1
     by stage.Mark e is h = let x = is.4 in cc
     by stage.Sleep e is h = absurd (true≢false (ap ends is.5 ∙ (quiet_sleep call).1))
-    by stage.Withdraw e is h = let x = is.2 in cc
+    by stage.Withdraw e is h = let x = is.4 in cc
     by stage.Leave e is h = let x = is.4 in cc
     by stage.LookToRemove e is h = absurd (true≢false (sym (ap releases e) ∙ free))
     by stage.Subtract e is h = absurd (true≢false (sym (ap releases e) ∙ free))
     by stage.Release e is h = absurd (true≢false (sym (ap releases e) ∙ free))
     by stage.Wake e is h = absurd (true≢false (sym (ap releases e) ∙ free))
     by stage.WakeRefused e is h = let x = is.2 in cc
+    by stage.WakeAcquired e is h = let x = is.2 in cc
 
 pub released_end : (call : Call) (before : Hold) (d : Down) (b : Bool) (v : OneView) → IsGoing (call, action.End b) before (to_release d) v
     → v.held ≡ hold_after before (step_of_down d)
@@ -250,6 +259,7 @@ released_end call before d b v going = by call.stage refl going.at going.held
     by stage.Withdraw e is h = absurd (true≢false (sym busy ∙ ap releases e))
     by stage.Leave e is h = absurd (true≢false (sym busy ∙ ap releases e))
     by stage.WakeRefused e is h = absurd (true≢false (sym busy ∙ ap releases e))
+    by stage.WakeAcquired e is h = absurd (true≢false (sym busy ∙ ap releases e))
     by stage.LookToRemove e is h = let x = is.2 in cc
     by stage.Subtract e is h = let x = is.2 in cc
     by stage.Release e is h = let x = is.2 in cc
@@ -257,3 +267,12 @@ released_end call before d b v going = by call.stage refl going.at going.held
       where
         over : (x : Hold) → IsWake (debt_at (action.End b)) (action.End b) → v.held ≡ hold_after before (step_of_down d)
         over x w = absurd w
+
+-- a call goes on after an action that is no step on the word
+pub rests_on : (p q : Pending) (me : Self) (found : ℕ) (a : Action) → p.action ≡ a → on_word a ≡ false → ends a ≡ false → at q ≡ next_of found p.call
+    → GoesOn p me q me
+rests_on p q me found a is off on turns = (
+  (found, turns),
+  λ before task going. subst (λ x. IsGoing x before task me.0) (sym turns)
+      (rests p.call p.action before task me.0 found (ap on_word is ∙ off) (ap ends is ∙ on) going),
+)

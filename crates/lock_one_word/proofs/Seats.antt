@@ -18,7 +18,7 @@ use Rattle.lock_one.specs.declared.action.Action.{Action}
 use Rattle.lock_one.specs.declared.action.Action.TheVariants as action
 use Rattle.lock_one.specs.declared.call.Call.{Call}
 use Rattle.lock_one.specs.declared.park.ParkView.{ParkView}
-use Rattle.lock_one.specs.Machine.{core_of, has_sleepers}
+use Rattle.lock_one.specs.Machine.{core_of, has_turn, has_sleepers}
 use Rattle.lock_one.specs.Runs.{limits_in}
 use Rattle.lock_one.specs.Steps.{made, limits_of, is_step, Keeps}
 use Rattle.lock_one.specs.Stored.{stored_of, word_of_stored, stored_amount}
@@ -33,7 +33,7 @@ use Rattle.lock_one_word.proofs.Parties.{party_at, keeps_resting, same_views}
 use Rattle.lock_one_word.proofs.Agree.{law, agrees}
 
 -- the rule after a step of the seat at id, which leaves this stored word and this view
-left : (limit id raw : ℕ) (s : Table) (v : OneView) → IsKept limit s → v.readers ≡ limit → raw < 2 ^ 36
+left : (limit id raw : ℕ) (s : Table) (v : OneView) → IsKept limit s → v.readers ≡ limit → raw < 2 ^ 37
     → Keeps (limits_in limit) (word_of_stored raw) (parties_in (slice_set s.views id v))
     → IsKept limit record { words = slice_set s.words 0 raw; homes = s.homes; views = slice_set s.views id v }
 left limit id raw s v kept readers small rule =
@@ -51,7 +51,7 @@ left limit id raw s v kept readers small rule =
       keeps = rw is rule;
     }
 
-word_small : (limit : ℕ) (s : Table) → IsKept limit s → word_of_stored (stored_in s) < 2 ^ 36
+word_small : (limit : ℕ) (s : Table) → IsKept limit s → word_of_stored (stored_in s) < 2 ^ 37
 word_small limit s kept = kept.keeps.small
 
 -- what the word tells a party of all holds
@@ -84,7 +84,7 @@ loaded limit id s me kept at = (
 
 -- the step of this call leaves the stored word `raw`, and the rule holds
 steps_to : (limit slots id raw : ℕ) (s : Table) (me : Self) (call : Call) (before : Hold) (task : Task) (a : Action) → IsKept limit s → get_elem? s.views id ≡ some me.0
-    → is_step call.stage ≡ true → IsGoing (call, a) before task me.0 → raw < 2 ^ 36 → word_of_stored raw ≡ made a (word_of_stored (stored_in s))
+    → is_step call.stage ≡ true → IsGoing (call, a) before task me.0 → raw < 2 ^ 37 → word_of_stored raw ≡ made a (word_of_stored (stored_in s))
     → (w : OneView) × (b : Act (Unit {0})) × Valid s.homes me.1 b × IsKept limit (stepped s 0 raw id me.1 w b)
     × Agrees a me (stored_in s) (w, carried_after me.1 b)
 steps_to limit slots id raw s me call before task a kept at stepping going small is =
@@ -127,7 +127,7 @@ loads limit slots id me s kept same at small = (
 
 -- an exchange, on the stored words
 pub exchanges : (limit slots id : ℕ) (me : Self) (call : Call) (before : Hold) (task : Task) (old new : ℕ) → is_step call.stage ≡ true
-    → IsGoing (call, action.Exchange old new) before task me.0 → old < 2 ^ 36 → new < 2 ^ 36
+    → IsGoing (call, action.Exchange old new) before task me.0 → old < 2 ^ 37 → new < 2 ^ 37
     → Allows (IsKept limit) slots id me 0 (λ n. either (eqb n (stored_of old)) (stored_of new) n) (Exchanges (step slots 0 (stored_of old) (stored_of new) none) me)
 exchanges limit slots id me call before task old new stepping going old_small new_small s kept same at small =
     let raw = stored_in s in
@@ -157,7 +157,7 @@ exchanges limit slots id me call before task old new stepping going old_small ne
 -- the subtraction on the stored word is the one on the word
 less : (limit id raw : ℕ) (s : Table) (v : OneView) (d : Down) → IsKept limit s → get_elem? s.views id ≡ some v → IsTrue (hold_has v.held (step_of_down d))
     → raw ≡ (stored_in s + (2 ^ 64 - stored_amount (2 ^ 64) d)) % 2 ^ 64
-    → (word_of_stored raw ≡ word_of_stored (stored_in s) - amount d) × (raw < 2 ^ 36)
+    → (word_of_stored raw ≡ word_of_stored (stored_in s) - amount d) × (raw < 2 ^ 37)
 less limit id raw s v d kept at has is =
     let word = word_of_stored (stored_in s) in
     let after = word - amount d in
@@ -205,7 +205,7 @@ one_more limit s kept =
           ];
       keeps =
           subst (λ ps. Keeps (limits_in limit) (word_of_stored (stored_in s)) ps) (sym (map-append resting s.views (newcomer limit ∷ [])))
-          record { small = kept.keeps.small; kept = joined (limits_in limit) (core_of (word_of_stored (stored_in s))) (has_sleepers (word_of_stored (stored_in s))) (parties_in s.views) kept.keeps.kept };
+          record { small = kept.keeps.small; kept = joined (limits_in limit) (core_of (word_of_stored (stored_in s))) (has_turn (word_of_stored (stored_in s))) (has_sleepers (word_of_stored (stored_in s))) (parties_in s.views) kept.keeps.kept };
     }
 
 pub enters : (limit slots : ℕ) → Enters (IsKept limit) slots 0 (λ n w. Loads (step slots 0 0 0 none) (newcomer limit, []) n (w, []))
@@ -221,14 +221,14 @@ enters limit slots s kept same small =
 
 -- the same, of numbers that equal these
 pub exchanges_as : (limit slots id : ℕ) (me : Self) (call : Call) (before : Hold) (task : Task) (old new first second : ℕ) → is_step call.stage ≡ true
-    → IsGoing (call, action.Exchange old new) before task me.0 → old < 2 ^ 36 → new < 2 ^ 36 → first ≡ stored_of old → second ≡ stored_of new
+    → IsGoing (call, action.Exchange old new) before task me.0 → old < 2 ^ 37 → new < 2 ^ 37 → first ≡ stored_of old → second ≡ stored_of new
     → Allows (IsKept limit) slots id me 0 (λ n. either (eqb n first) second n) (Exchanges (step slots 0 first second none) me)
 exchanges_as limit slots id me call before task old new first second stepping going old_small new_small is_first is_second =
     subst (λ x. Allows (IsKept limit) slots id me 0 (λ n. either (eqb n x) second n) (Exchanges (step slots 0 x second none) me)) (sym is_first)
     (subst (λ y. Allows (IsKept limit) slots id me 0 (λ n. either (eqb n (stored_of old)) y n) (Exchanges (step slots 0 (stored_of old) y none) me)) (sym is_second)
     (exchanges limit slots id me call before task old new stepping going old_small new_small))
 
-pub same_numbers : (old new first second : ℕ) → old < 2 ^ 36 → new < 2 ^ 36 → first ≡ stored_of old → second ≡ stored_of new
+pub same_numbers : (old new first second : ℕ) → old < 2 ^ 37 → new < 2 ^ 37 → first ≡ stored_of old → second ≡ stored_of new
     → action.Exchange old new ≡ action.Exchange (word_of_stored first) (word_of_stored second)
 same_numbers old new first second a b is_first is_second =
     sym (ap (λ n. action.Exchange n (word_of_stored second)) (ap word_of_stored is_first ∙ read_back old a)

@@ -1,14 +1,13 @@
 -- A call keeps its task.
-use Rattle.std.proofs.Common.{◌≡◌, ℕ, ◌+◌, ◌-◌, ◌^◌, Bool, true, false, not, ◌&&◌, ◌==◌, nat_lt, if◌then◌else◌, refl}
+use Rattle.std.proofs.Common.{◌≡◌, ℕ, ◌+◌, Bool, true, false, not, ◌&&◌, ◌||◌, ◌==◌, nat_lt, if◌then◌else◌, refl}
 use Rattle.std.proofs.lemmas.Bool.{false≢true}
-use Rattle.lock_word.specs.Word.{word_admits}
 use Rattle.lock_one.specs.declared.action.Action.TheVariants as action
 use Rattle.lock_one.specs.declared.call.Call.{Call}
 use Rattle.lock_one.specs.declared.stage.Stage.{Stage}
 use Rattle.lock_one.specs.declared.stage.Stage.TheVariants as stage
 use Rattle.lock_one.specs.declared.park.Debt.{Debt}
 use Rattle.lock_one.specs.declared.park.Debt.TheVariants as debt
-use Rattle.lock_one.specs.Machine.{Progress, core_of, has_sleepers, sleepers, wakes_one, sleep, word_marked, mark_or_sleep, marked, time_out, withdrawn, wait, after_try, decide, release_of, release_on, subtract, release_again, wakes, acquired, refused, goes_to, next_at, next_of}
+use Rattle.lock_one.specs.Machine.{Progress, has_sleepers, admits_word, drops_turn, takes_turn, won, sleepers, wakes_one, has_slept, word_withdrawn, sleep, word_marked, mark_or_sleep, marked, time_out, withdrawn, wait, after_try, decide, release_of, release_on, subtract, release_again, wakes, acquired, refused, goes_to, next_at, next_of}
 use Rattle.lock_one.specs.Steps.{is_step}
 use Rattle.lock_one_word.specs.Seats.{Task, task_of}
 
@@ -29,9 +28,9 @@ waits call = by (word_marked call == call.loaded)
     by false = refl
 
 times_out : (call : Call) → task (time_out call) ≡ acquires call
-times_out call = by call.announced (wakes_one call && (call.slept && nat_lt call.loaded sleepers))
+times_out call = by (call.announced || drops_turn call) (wakes_one call && (has_slept call && nat_lt call.loaded sleepers))
   where
-    by : (b c : Bool) → task (if b then goes_to (record call { left = core_of call.loaded - 2 ^ 34 }) stage.Withdraw (action.Exchange call.loaded (core_of call.loaded - 2 ^ 34))
+    by : (b c : Bool) → task (if b then goes_to (record call { left = word_withdrawn call }) stage.Withdraw (action.Exchange call.loaded (word_withdrawn call))
         else if c then goes_to (record call { left = call.loaded + sleepers }) stage.Leave (action.Exchange call.loaded (call.loaded + sleepers)) else refused call) ≡ acquires call
     by true c = refl
     by false true = refl
@@ -48,7 +47,7 @@ rests call = by call.blocks call.late (nat_lt call.pauses 6)
     by true false false = waits call
 
 decides : (word : ℕ) (call : Call) → task (decide word call) ≡ acquires call
-decides word call = by (word_admits call.announced call.readers (core_of word) call.want)
+decides word call = by (admits_word call.announced call.readers word call.want)
   where
     by : (b : Bool) → task (if b then goes_to (record call { loaded = word; left = after_try call word }) stage.Try (action.Exchange word (after_try call word)) else wait (record call { loaded = word })) ≡ acquires call
     by true = refl
@@ -59,11 +58,19 @@ wakes_up debt.Nothing call = refl
 wakes_up debt.One call = refl
 wakes_up debt.All call = refl
 wakes_up debt.Next call = refl
+wakes_up debt.Turn call = refl
+
+wins : (call : Call) → task (won call) ≡ acquires call
+wins call = by (takes_turn call call.loaded && has_sleepers call.loaded)
+  where
+    by : (b : Bool) → task (if b then goes_to call stage.WakeAcquired action.WakeAll else acquired call) ≡ acquires call
+    by true = refl
+    by false = refl
 
 withdraws : (call : Call) → task (withdrawn call) ≡ acquires call
-withdraws call = by (has_sleepers call.loaded)
+withdraws call = by (has_sleepers call.loaded && not (wakes_one call))
   where
-    by : (b : Bool) → task (if b then goes_to (record call { announced = false }) stage.WakeRefused action.WakeAll else refused (record call { announced = false })) ≡ acquires call
+    by : (b : Bool) → task (if b then goes_to (record call { announced = false; turned = false }) stage.WakeRefused action.WakeAll else refused (record call { announced = false; turned = false })) ≡ acquires call
     by true = refl
     by false = refl
 
@@ -87,6 +94,7 @@ goes_on stage.Subtract h = refl
 goes_on stage.Release h = refl
 goes_on stage.Wake h = refl
 goes_on stage.WakeRefused h = refl
+goes_on stage.WakeAcquired h = refl
 goes_on stage.Acquired h = absurd (false≢true h)
 goes_on stage.Refused h = absurd (false≢true h)
 goes_on stage.Ended h = absurd (false≢true h)
@@ -110,7 +118,7 @@ module _ (found : ℕ) (call : Call) where
 
   by_stage : (st : Stage) → is_on st ≡ true → task (next_at st found call) ≡ task_of (record call { stage = st })
   by_stage stage.Look h = decides found call
-  by_stage stage.Try h = either (found == call.loaded) (acquired call) refl
+  by_stage stage.Try h = either (found == call.loaded) (won call) (wins call)
   by_stage stage.Pause h = refl
   by_stage stage.Mark h = either (found == call.loaded) (marked call) refl
   by_stage stage.Sleep h = refl
@@ -121,6 +129,7 @@ module _ (found : ℕ) (call : Call) where
   by_stage stage.Release h = releasing (found == call.loaded)
   by_stage stage.Wake h = refl
   by_stage stage.WakeRefused h = refl
+  by_stage stage.WakeAcquired h = refl
   by_stage stage.Acquired h = absurd (false≢true h)
   by_stage stage.Refused h = absurd (false≢true h)
   by_stage stage.Ended h = absurd (false≢true h)

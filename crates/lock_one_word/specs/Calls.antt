@@ -6,8 +6,8 @@ use Rattle.lock_modes.specs.declared.mode.Mode.{Mode}
 use Rattle.lock_modes.specs.declared.hold.Hold.{Hold}
 use Rattle.lock_modes.specs.Modes.{empty_bag, one_more, tokens}
 use Rattle.lock_word.specs.declared.want.ExWant.{ExWant}
-use Rattle.lock_word.specs.Word.{bag_of_word, word_admits}
-use Rattle.lock_one.specs.Machine.{core_of, has_sleepers}
+use Rattle.lock_word.specs.Word.{bag_of_word}
+use Rattle.lock_one.specs.Machine.{core_of, has_sleepers, admits_word}
 use Rattle.lock_one.specs.Rule.{is_upgrade}
 use Rattle.lock_one_word.specs.declared.rule.OneView.{OneView}
 pub use Rattle.lock_one_word.specs.Seals.{Ending, Seen}
@@ -40,7 +40,7 @@ IsTokenOf lock mode token = token ≡ record { lock = lock; held = one_hold mode
 
 -- the word that the call found last refuses what it wants
 abbrev pub IsRefusedBy : ℕ → ExWant → ℕ → Type 0
-IsRefusedBy readers wish word = word_admits false readers (core_of word) wish ≡ false
+IsRefusedBy readers wish word = admits_word false readers word wish ≡ false
 
 -- the end of a try with this answer: it does not block, and if it was refused, a word refuses it, or it has made as many
 -- exchanges as it can count, and each failed

@@ -7,13 +7,14 @@ use Rattle.lock_word.specs.Unblocking.{is_awaited}
 use Rattle.lock_word.specs.declared.down.Down.{Down}
 use Rattle.lock_word.specs.Word.{step_of_want, step_of_down, word_admits, word_after}
 use Rattle.lock_one.specs.declared.action.Action.{Action}
-use Rattle.lock_one.specs.declared.action.Action.TheVariants.{Load, Exchange, Subtract, WakeOne, WakeAll, WakeNext, End}
+use Rattle.lock_one.specs.declared.action.Action.TheVariants.{Load, Exchange, Subtract, WakeOne, WakeAll, WakeNext, WakeTurn, End}
 use Rattle.lock_one.specs.declared.call.Call.{Call}
 use Rattle.lock_one.specs.declared.stage.Stage.{Stage}
 use Rattle.lock_one.specs.declared.stage.Stage.TheVariants as stage
-use Rattle.lock_one.specs.Machine.{Progress, acquiring, taking, next_of, sleepers}
+use Rattle.lock_one.specs.Machine.{Progress, acquiring, taking, next_of, turn}
 use Rattle.lock_one.specs.Rule.{is_upgrade}
 use Rattle.lock_one.specs.Steps.{ends}
+use Rattle.lock_one_word.specs.declared.rule.OneView.{OneView}
 use Rattle.lock_one_word.specs.declared.word_lock.steps.looked.Looked.{Looked}
 use Rattle.lock_one_word.specs.declared.word_lock.steps.unacquired.Unacquired.{Unacquired}
 use Rattle.lock_one_word.specs.declared.word_lock.steps.unreleased.Unreleased.{Unreleased}
@@ -29,6 +30,7 @@ touches_lock (Subtract d) = true
 touches_lock WakeOne = true
 touches_lock WakeAll = true
 touches_lock WakeNext = true
+touches_lock WakeTurn = true
 touches_lock other = false
 
 -- the party is in a call whose next action is this one
@@ -62,9 +64,9 @@ unacquired_at u = after_found u.found (looked_at u.looked)
 abbrev pub unreleased_at : Unreleased → Progress
 unreleased_at u = next_of u.found (after_found u.looked (taking u.releasing.readers u.releasing.down)).0
 
--- the loaded word has no bit of sleepers and admits the call, whose exchange leaves this word
+-- the loaded word has neither T nor the bit of sleepers and admits the call, whose exchange leaves this word
 abbrev pub Admits : Looked → ℕ → Type 0
-Admits l left = (left ≡ word_after l.word l.want) × (l.word < sleepers) × (word_admits false l.readers l.word l.want ≡ true)
+Admits l left = (left ≡ word_after l.word l.want) × (l.word < turn) × (word_admits false l.readers l.word l.want ≡ true)
 
 -- the party is in a call that asks for this action
 abbrev pub CanMake : Action → Self → Type 0
@@ -96,14 +98,30 @@ abbrev pub EndsWith : Progress → Self → Bool → Self → Type 0
 EndsWith first me answer after =
     (before : Hold) (task : Task) → IsGoing first before task me.0 → (call : Call) × IsGoing (call, End answer) before task after.0
 
--- a try after its load: it asks for an exchange, or has ended
+-- a try after its load: it asks for an exchange, or has ended, or owes the wake-up of a reader that took the turn
 pub record IsTrying (next : Progress) : Type 0 where
   pub tries : next.0.blocks ≡ false
-  pub stage : (next.0.stage ≡ stage.Try) ⊎ ((next.0.stage ≡ stage.Acquired) ⊎ (next.0.stage ≡ stage.Refused))
+  pub stage : (next.0.stage ≡ stage.Try) ⊎ ((next.0.stage ≡ stage.Acquired) ⊎ ((next.0.stage ≡ stage.Refused) ⊎ (next.0.stage ≡ stage.WakeAcquired)))
 
 abbrev pub says_yes : Action → Bool
 says_yes (End b) = b
 says_yes other = false
+
+-- a try asks for an exchange, or ends, but for its wake-up
+abbrev pub is_tried : Action → Bool
+is_tried (Exchange x y) = true
+is_tried (End b) = true
+is_tried other = false
+
+abbrev pub is_exchange : Action → Bool
+is_exchange (Exchange x y) = true
+is_exchange other = false
+
+-- a try that asks for no exchange has made the wake-up that it owed, if it owed one
+abbrev pub HasWoken : Pending → Pending → Type 0
+HasWoken p q =
+    (before : Hold) (task : Task) (v : OneView) → IsGoing (at p) before task v → IsTrying (at p) → is_exchange p.action ≡ false
+    → IsGoing (at q) before task v × IsTrying (at q) × (is_tried q.action ≡ true) × (is_exchange q.action ≡ false)
 
 -- the try has acquired, or it has changed nothing
 abbrev pub Tried : Progress → Bool → Self → Self → Type 0

@@ -21,7 +21,7 @@ Agrees a me found after =
 
 abbrev pub Loads : Step (Unit {0}) → Self → ℕ → Self → Type 0
 Loads s me found after =
-    (after ≡ me) × (found < 2 ^ 36) × WordShows me.0.readers (core_of (word_of_stored found)) me.0.held × Agrees Load me found after
+    (after ≡ me) × (found < 2 ^ 37) × WordShows me.0.readers (core_of (word_of_stored found)) me.0.held × Agrees Load me found after
 
 abbrev pub Exchanges : Step (Unit {0}) → Self → ℕ → Self → Type 0
 Exchanges s me found after = Agrees (Exchange (word_of_stored s.first) (word_of_stored s.second)) me found after
@@ -29,8 +29,8 @@ Exchanges s me found after = Agrees (Exchange (word_of_stored s.first) (word_of_
 -- the release that subtracts this number from the stored word
 abbrev pub down_of_amount : ℕ → Down
 down_of_amount n =
-    if n == 16 then down.Shared else if n == 2 then down.Exclusive else if n == 17 then down.Upgradable else if n == 1 then down.UpgradableToShared
-    else if n == 4 then down.Withdraw else if n == 2 ^ 64 - 14 then down.ToShared else down.ToUpgradable
+    if n == 32 then down.Shared else if n == 2 then down.Exclusive else if n == 33 then down.Upgradable else if n == 1 then down.UpgradableToShared
+    else if n == 4 then down.Withdraw else if n == 2 ^ 64 - 30 then down.ToShared else down.ToUpgradable
 
 abbrev pub Subtracts : Step (Unit {0}) → Self → ℕ → Self → Type 0
 Subtracts s me found after = Agrees (Subtract (down_of_amount s.first)) me found after

@@ -46,7 +46,7 @@ stored_in s = slice_index s.words 0
 -- the rule of the table, for the limit that each view repeats
 pub record IsKept (limit : ℕ) (s : Table) : Type 0 where
   pub one_word : length s.words ≡ 1
-  pub small : stored_in s < 2 ^ 36
+  pub small : stored_in s < 2 ^ 37
   pub range : IsLimit limit
   pub known : (k : ℕ) (v : OneView) → get_elem? s.views k ≡ some v → v.readers ≡ limit
   pub keeps : Keeps (limits_in limit) (word_of_stored (stored_in s)) (parties_in s.views)
@@ -82,5 +82,5 @@ pub record IsGoing (next : Progress) (before : Hold) (task : Task) (v : OneView)
   pub lock : next.0.readers ≡ v.readers
   pub at : IsAt next.0.stage next.0 (placed v.held next.1) next.1
   pub held : v.held ≡ hold_at next.0.stage next.0 before
-  pub loaded : next.0.loaded < 2 ^ 36
+  pub loaded : next.0.loaded < 2 ^ 37
   pub tasked : task_of next.0 ≡ task

@@ -26,8 +26,8 @@ impl WordLock {
         None
     }
 
-    /// Acquires the mode, blocking: it spins for a moment, and then sleeps until a release unblocks some sleeper. In a
-    /// lock for several readers a writer sets the bar before it sleeps, unless it is set. A bar refuses later calls.
+    /// Acquires the mode, blocking: it spins for a moment, and then sleeps until a release unblocks some sleeper. A
+    /// writer sets the bar before it sleeps, unless it is set. In a mutex it first sleeps four times. A bar refuses later calls.
     pub fn acquire<R: Wait>(&self, rt: &R, mode: Mode) -> WordToken
         ensures { IsTokenOf self.now mode result }
     {

@@ -9,7 +9,7 @@ ghost use Rattle.lock_one_word.specs.Calls.{IsTokenOf, WasTried, HasTimedOut};
 use crate::until::{Deadline, Endless, Until};
 use crate::word_lock::{WordLock, WordToken};
 use lock_modes::Mode;
-use lock_one::SLEEPERS;
+use lock_one::TURN;
 use lock_word::Down;
 use std::sync::Wait;
 use std::time::{Clock, Instant};
@@ -23,7 +23,7 @@ impl WordLock {
     {
         let mut seat = token.into_seat();
         let word = self.load_word(&mut seat);
-        (word % SLEEPERS, seat.into_token())
+        (word % TURN, seat.into_token())
     }
 
     /// Releases a token of the mode, and wakes the sleepers that this unblocks. After the step that releases, it accesses

@@ -28,6 +28,7 @@ impl WordLock {
             Action::WakeOne => self.wake_one(pending),
             Action::WakeAll => self.wake_all(pending),
             Action::WakeNext => self.wake_next(pending),
+            Action::WakeTurn => self.wake_turn(pending),
             Action::Park(..) | Action::Spin(_) | Action::Yield | Action::End(_) => return false,
         }
         true
@@ -51,7 +52,9 @@ impl WordLock {
             return None;
         }
         match pending.action() {
-            Action::Park(number, is_next) => self.park(rt, pending, number, is_next, until),
+            Action::Park(number, class, is_brief) => {
+                self.park(rt, pending, number, class, is_brief, until)
+            }
             Action::Spin(times) => self.spin(pending, times),
             Action::Yield => self.rest(rt, pending, until),
             Action::End(answer) => return Some(answer),

@@ -1,8 +1,8 @@
 //! How a call tries, without blocking.
 ghost use Rattle.std.specs.Prelude.{◌≡◌, false, is_ok};
-ghost use Rattle.lock_one_word.specs.Drives.{looked_at, unacquired_at, CanGo, IsTrying, Tried, TriesEnd, says_yes};
+ghost use Rattle.lock_one_word.specs.Drives.{looked_at, unacquired_at, CanGo, HasWoken, IsTrying, Tried, TriesEnd, says_yes};
 
-use crate::word_lock::{CallSeat, Ended, Looked, Unacquired, WordLock};
+use crate::word_lock::{CallSeat, Ended, Looked, Pending, Unacquired, WordLock};
 use lock_one::Action;
 
 impl WordLock {
@@ -39,8 +39,18 @@ impl WordLock {
             }
             self.exchange(seat, &mut pending, old, new);
         }
+        self.wake_readers(&mut pending);
         let acquired = says_yes(pending.action());
         pending.answer(acquired)
+    }
+
+    /// Makes the wake-up of a try that took the turn of readers.
+    fn wake_readers(&self, pending: &mut Pending)
+        ensures { HasWoken pending.old pending.new }
+    {
+        if let Action::WakeAll = pending.action() {
+            self.wake_all(pending);
+        }
     }
 }
 

@@ -11,6 +11,18 @@ pub(crate) enum Left {
     Over,
 }
 
+impl Left {
+    /// Returns the time that a sleep may last, which is at most half a millisecond if it is brief.
+    pub(crate) fn at_most(self, is_brief: bool) -> Left {
+        let most = Duration::from_micros(500);
+        match self {
+            Left::Endless if is_brief => Left::Within(most),
+            Left::Within(left) if is_brief && most < left => Left::Within(most),
+            other => other,
+        }
+    }
+}
+
 /// The end of a wait.
 pub(crate) trait Until<R> {
     /// Returns the time that is left.

@@ -8,7 +8,7 @@ mod steps;
 use crate::rule::{OneRule, OneView};
 use atomic_table::Table;
 use lock_modes::{Fault, is_limit};
-use lock_one::SLEEPERS;
+use lock_one::{SLEEPERS, TURN};
 use lock_word::{has_exclusive, has_tokens};
 use std::alloc::Global;
 use std::marker::Model;
@@ -17,8 +17,8 @@ pub(crate) use steps::{CallSeat, Ended, Looked, Pending, Unacquired, Unreleased}
 
 /// A reader-writer lock in one word, on which its waiters sleep.
 ///
-/// A lock for one reader is a mutex in all modes: a release wakes one sleeper, and no writer sets the bar. Other locks wake
-/// all sleepers that a release unblocks. After the step that releases, a release accesses the word no more.
+/// A lock for one reader is a mutex in all modes: a release wakes one sleeper. Other locks wake all sleepers that a release
+/// unblocks. After the step that releases, a release accesses the word no more.
 #[derive(Drop)]
 pub struct WordLock {
     table: Table<(), OneView, u64, OneRule, Global>,
@@ -58,14 +58,14 @@ impl WordLock {
     pub fn is_locked(&self) -> bool
         ensures { SawTokens result }
     {
-        has_tokens(self.peek().word() % SLEEPERS)
+        has_tokens(self.peek().word() % TURN)
     }
 
     /// Returns whether an exclusive token is held. The answer may be stale at once.
     pub fn is_locked_exclusive(&self) -> bool
         ensures { SawExclusive result }
     {
-        has_exclusive(self.peek().word() % SLEEPERS)
+        has_exclusive(self.peek().word() % TURN)
     }
 
     /// Returns whether a waiter may sleep. The answer may be stale at once.

@@ -51,3 +51,4 @@ pub mod PlanCopies
 pub mod TraceSteps
 pub mod StillCircles
 pub mod NeverWaits
+pub mod PlayedSteps

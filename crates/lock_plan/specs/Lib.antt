@@ -15,3 +15,4 @@ pub mod Stops
 pub mod Memory
 pub mod Circles
 pub mod NeverWaits
+pub mod Played

@@ -1,5 +1,5 @@
 -- What all parties hold of a lock, which party has announced itself, and which holder refuses a mode.
-use Rattle.std.proofs.Common.{◌≡◌, ◌≢◌, ℕ, zero, suc, ◌+◌, ◌*◌, ◌<◌, ◌≤◌, ◌⊎◌, inl, inr, Bool, true, false, ◌&&◌, if◌then◌else◌, List, [], ◌∷◌, length, get_or, Option, Some, refl, sym, ◌∙◌, suc-mul, arith}
+use Rattle.std.proofs.Common.{◌≡◌, ◌≢◌, ℕ, zero, suc, ◌+◌, ◌<◌, ◌≤◌, ◌⊎◌, inl, inr, Bool, true, false, ◌&&◌, if◌then◌else◌, List, [], ◌∷◌, length, get_or, Option, Some, refl, sym, ◌∙◌, arith}
 use Rattle.std.specs.Prelude.{◌==◌, nat_lt}
 use Rattle.std.proofs.lemmas.Bool.{false≢true, and_cases, and_left, and_right, cases_lt, lt-ltb, ne_eqb}
 use Rattle.lock_modes.specs.declared.mode.Mode.{Mode}
@@ -10,6 +10,7 @@ use Rattle.lock_modes.specs.Modes.{empty_bag, tokens, readers, admits}
 use Rattle.lock_modes.specs.Holds.{no_hold}
 use Rattle.lock_modes.proofs.ModeLemmas.{admits-beside_exclusive}
 use Rattle.lock_plan.specs.Worlds.{bag_on, bar_from, joined}
+use Rattle.lock_plan_laws.specs.WaitRanks.{sum_below}
 
 -- if all hold some, one does
 some_with : (f : Bag → ℕ) → ((a b : Bag) → f (joined a b) ≡ f a + f b) → f empty_bag ≡ 0
@@ -52,14 +53,19 @@ some_other (hs ∷ hss) l (suc p) more =
           (suc q.0, λ same. q.1 (omega (arith, same)), q.2)
     ]
 
--- if no party reads more than so often, all together read at most so often for each of them
-pub few_readers : (hss : List (List Hold)) (l most : ℕ) → ((q : ℕ) → readers (get_or (get_or hss q []) l no_hold).bag ≤ most)
-    → readers (bag_on l hss) ≤ length hss * most
+-- if no party reads more often than its number says, all together read no more often than the sum of these
+pub few_readers : (hss : List (List Hold)) (l : ℕ) (most : ℕ → ℕ) → ((q : ℕ) → q < length hss → readers (get_or (get_or hss q []) l no_hold).bag ≤ most q)
+    → readers (bag_on l hss) ≤ sum_below most (length hss)
 few_readers [] l most each = omega arith
 few_readers (hs ∷ hss) l most each =
-    let here = each 0 in
-    let rest = few_readers hss l most (λ q. each (suc q)) in
-    omega (arith, here, rest, suc-mul (length hss) most)
+    let here = each 0 (omega arith) in
+    let rest = few_readers hss l (λ q. most (suc q)) (λ q lt. each (suc q) (omega (arith, lt))) in
+    omega (arith, here, rest)
+
+pub sum_more : (a b : ℕ) (f : ℕ → ℕ) → a ≤ b → sum_below f a ≤ sum_below f b
+sum_more zero b f le = omega arith
+sum_more (suc a) zero f le = absurd (omega (arith, le))
+sum_more (suc a) (suc b) f le = omega (arith, sum_more a b (λ k. f (suc k)) (omega (arith, le)))
 
 if_some : (b : Bool) (row q : ℕ) (o : Option ℕ) → (if b then Some row else o) ≡ Some q → ((b ≡ true) × (row ≡ q)) ⊎ (o ≡ Some q)
 if_some true row q o e = inl (refl, cc)

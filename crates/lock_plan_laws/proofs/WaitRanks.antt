@@ -1,6 +1,6 @@
 -- In a world of a plan without a circle of waits some party has a step or none is due, and there is no circle. Else each party
 -- that waits is held up by one that waits at a higher rank.
-use Rattle.std.proofs.Common.{◌≡◌, ◌≢◌, ℕ, zero, suc, ◌+◌, ◌*◌, ◌<◌, ◌≤◌, inl, inr, Bool, true, false, not, ◌&&◌, ◌||◌, if◌then◌else◌, List, [], ◌∷◌, length, map, get_or, Option, Some, None, Ok, refl, ap, sym, ◌∙◌, subst, mul-le-mul_right, arith}
+use Rattle.std.proofs.Common.{◌≡◌, ◌≢◌, ℕ, zero, suc, ◌+◌, ◌<◌, ◌≤◌, inl, inr, Bool, true, false, not, ◌&&◌, ◌||◌, if◌then◌else◌, List, [], ◌∷◌, length, map, get_or, Option, Some, None, Ok, refl, ap, sym, ◌∙◌, subst, arith}
 use Rattle.std.specs.Prelude.{◌==◌, nat_lt}
 use Rattle.std.proofs.lemmas.Bool.{false≢true, and_parts, and_from, and_left, and_right, cases_eq, cases_lt, cases_Bool, eq-eqb, lt-ltb, ltb-true, eqb-true, eqb-false, not-false, not_from_false, not_from_true, or_from, or_left, or_right, false_from_ne_true}
 use Rattle.std.proofs.lemmas.List.{get_or-map, get_or_past, length-map}
@@ -37,7 +37,7 @@ use Rattle.lock_plan_laws.proofs.Exclusion.{not_excluded, one_within, right_kind
 use Rattle.lock_plan_laws.proofs.Fits.{fits_by}
 use Rattle.lock_plan_laws.proofs.MachineStops.{never, no_deadlocks}
 use Rattle.lock_plan_laws.proofs.SceneStops.{some_found}
-use Rattle.lock_plan_laws.proofs.HeldByAll.{some_holder, some_other, few_readers, some_bar, first_false, second_false, not_zero, refusing}
+use Rattle.lock_plan_laws.proofs.HeldByAll.{some_holder, some_other, few_readers, sum_more, some_bar, first_false, second_false, not_zero, refusing}
 use Rattle.lock_plan_laws.proofs.BlockedCalls.{free_admits, fits_at, no_unknown, by_kind, reentrant_is, no_step, not_refused, step_blocks, no_line, lined_mode, call_same, call_is, bar_there, own_bar, write_mode}
 
 and_not_true : (a b : Bool) → b ≡ true → (a && not b) ≡ false
@@ -281,8 +281,8 @@ module _ (rank : ℕ → ℕ → ℕ) (strict : ℕ → Bool) (servers : List Bo
           ]
 
       -- a party in the set reads no more than what is known of its program
-      each_reads : (l : ℕ) (k : IsLenient (Lock locks l) (length programs) plan.known l) (q : ℕ) → readers (hold_of hss q l).bag ≤ k.most
-      each_reads l k q = elim (cases_lt 0 (tokens (hold_of hss q l).bag)) [
+      each_reads : (l : ℕ) (k : IsLenient (Lock locks l) (length programs) plan.known l) (q : ℕ) → q < length hss → readers (hold_of hss q l).bag ≤ k.most q
+      each_reads l k q q_in = elim (cases_lt 0 (tokens (hold_of hss q l).bag)) [
         | inr none ↦ omega (arith, none)
         | inl some ↦
             let in_it = scope.holders q l some in
@@ -304,7 +304,7 @@ module _ (rank : ℕ → ℕ → ℕ) (strict : ℕ → Bool) (servers : List Bo
           sym (if_false (is_reentrant (Lock locks l).kind) (tokens (bag_on l hss) == tokens (hold_of hss p l).bag) (admits (Lock locks l).limit (bag_on l hss) h.mode) plain)
           ∙ second_false (bar_lets_pass (bar_from 0 l hss) p h.mode) _ (no_bar l p h.mode k.no_bar) refused in
           let reads = few_readers hss l k.most (each_reads l k) in
-          let fewer : length hss * k.most ≤ length programs * k.most = mul-le-mul_right k.most (omega (arith, scope.long, all.many)) in
+          let fewer = sum_more (length hss) (length programs) k.most (omega (arith, scope.long, all.many)) in
           let q = refusing hss l (Lock locks l).limit (omega (arith, reads, fewer, k.room)) h.mode no in
           record {
             who = q.0;

@@ -1,6 +1,6 @@
 -- Plans without a circle of waits. A wait is a blocking acquisition of a party, with what the party holds there. The waits
 -- have ranks: each is below all waits that may hold it up.
-use Rattle.std.specs.Prelude.{◌≡◌, ◌≢◌, ℕ, ◌*◌, ◌<◌, ◌≤◌, Bool, true, false, not, ◌&&◌, ◌||◌, nat_lt, ◌⊎◌, List, [], length, Some, Ok, IsTrue}
+use Rattle.std.specs.Prelude.{◌≡◌, ◌≢◌, ℕ, zero, suc, ◌+◌, ◌<◌, ◌≤◌, Bool, true, false, not, ◌&&◌, ◌||◌, nat_lt, ◌⊎◌, List, [], length, Some, Ok, IsTrue}
 use Rattle.std.proofs.Common.{get_or}
 use Rattle.lock_modes.specs.declared.bag.Bag.{Bag}
 use Rattle.lock_modes.specs.declared.hold.Hold.{Hold}
@@ -61,14 +61,20 @@ pub record MayHoldUp (strict : ℕ → Bool) (locks : List PlanLock) (x y : Wait
       ⊎ (((x.party ≡ y.party) × (x.place ≡ y.place)) × (is_reentrant (get_or locks x.lock no_lock).kind ≡ false))
   pub refuses : may_hold_up (strict x.lock) (get_or locks x.lock no_lock).limit x.mode (get_or y.holds x.lock no_hold).bag ≡ true
 
--- the lock with this number has neither a line nor a bar, and so many parties together never have as many reads as its limit
+-- the sum of the values of the numbers below one
+abbrev pub sum_below : (ℕ → ℕ) → ℕ → ℕ
+sum_below f zero = 0
+sum_below f (suc n) = f 0 + sum_below (λ k. f (suc k)) n
+
+-- the lock with this number has neither a line nor a bar, and so many parties together never have as many reads as its limit:
+-- each has at most so many of its own
 pub record IsLenient (lock : PlanLock) (parties : ℕ) (known : ℕ → Known) (number : ℕ) : Type 0 where
   pub no_line : lock.fair ≡ false
   pub no_bar : lock.bar ≡ false
-  pub most : ℕ
+  pub most : ℕ → ℕ
   pub each : (party place : ℕ) (hs : List Hold) → party < parties → known_at (known party) place ≡ Some hs
-      → readers (get_or hs number no_hold).bag ≤ most
-  pub room : parties * most < lock.limit
+      → readers (get_or hs number no_hold).bag ≤ most party
+  pub room : sum_below most parties < lock.limit
 
 -- a plan of machines whose waits have such ranks
 pub record HasWaitRanks (rank : ℕ → ℕ → ℕ) (strict : ℕ → Bool) (locks : List PlanLock) (programs : List (List ProgramPlace)) : Type 0 where

@@ -1,9 +1,8 @@
 -- Programs whose waits are ranked make no circle, whatever parties run them.
-use Rattle.std.proofs.Common.{◌≡◌, ◌≢◌, ℕ, zero, suc, ◌+◌, ◌*◌, ◌<◌, ◌≤◌, inl, inr, Bool, true, false, not, ◌&&◌, ◌||◌, if◌then◌else◌, List, [], ◌∷◌, length, get_or, Option, Some, None, refl, ap, sym, ◌∙◌, subst, arith}
+use Rattle.std.proofs.Common.{◌≡◌, ◌≢◌, ℕ, zero, suc, ◌+◌, ◌<◌, inl, inr, Bool, true, false, not, ◌&&◌, ◌||◌, if◌then◌else◌, List, [], ◌∷◌, length, get_or, Option, Some, None, refl, ap, sym, ◌∙◌, subst, arith}
 use Rattle.std.specs.Prelude.{◌==◌, nat_lt}
 use Rattle.std.specs.List.{list_all}
 use Rattle.std.specs.Option.{unwrap_or}
-use Rattle.std.proofs.Math.Nat.{mul-le-mul_right}
 use Rattle.std.proofs.lemmas.Bool.{and_parts, and_from, cases_Bool, cases_eq, eq-eqb, ltb-true, ne_eqb, not_from_false, or_left, or_right}
 use Rattle.lock_modes.specs.declared.hold.Hold.{Hold}
 use Rattle.lock_modes.specs.declared.lock_step.LockStep.TheVariants.{Modes}
@@ -25,7 +24,8 @@ use Rattle.lock_plan_laws.proofs.OrderChecks.{all_free, covered_at, covers_place
 use Rattle.lock_plan_laws.proofs.WaitRanks.{never_deadlock}
 use Rattle.lock_plan_order.specs.declared.setting.Setting.{Setting}
 use Rattle.lock_plan_order.specs.declared.wait_place.WaitPlace.{WaitPlace}
-use Rattle.lock_plan_order.specs.LockOrders.{AreCovered, AreKnown, AreRuns, AreStrict, IsWithoutCircle}
+use Rattle.lock_plan_order.specs.LockOrders.{AreCovered, AreKnown, AreRuns, AreStrict, IsWithoutCircle, most_reads}
+use Rattle.lock_plan_order.proofs.FewReads.{most_at, runs_sum, sum_listed}
 use Rattle.lock_plan_order.specs.WaitChecks.{are_ranked, are_together, are_two, holds_at, holds_some, is_below_all, is_same, known_in, may_be_held_up, meet_from, rank_at, rises, wait_at, waits_of}
 use Rattle.lock_plan_order.proofs.LockOrders.{as_many, known_at_program}
 use Rattle.lock_plan_order.proofs.WaitLists.{in_programs}
@@ -186,19 +186,20 @@ module _ (s : Setting) (programs : List (List ProgramPlace)) (ranks : List (List
 
   lenient : (lock : ℕ) → lock < length locks → is_strict lock ≡ false → IsLenient (get_or locks lock no_lock) (length parties) Known_of lock
   lenient lock lt plain =
-      let among_them = strict lock lt plain in
-      let k = among_them.1 in
-      let fewer = are.few among_them.0 in
+      let k = strict lock lt plain in
       let as_long = as_many locks programs (known_in s) told in
-      let more : length parties * k.most ≤ length (known_in s) * k.most = mul-le-mul_right k.most (omega (arith, fewer, as_long)) in
+      let most : ℕ → ℕ = λ program. most_reads lock (get_or (known_in s) program []) in
+      let few = runs_sum (length parties) (length (known_in s)) most runs
+      (λ p below. omega (arith, (are.each p below).0, as_long))
+      (λ p q p_in q_in other same.
+      k.room.alone (runs p) (omega (arith, (are.each p p_in).0, as_long)) (are.single p q p_in q_in other same)) in
+      let all = sum_listed (most_reads lock) (known_in s) in
       record {
         no_line = k.no_line;
         no_bar = k.no_bar;
-        most = k.most;
-        each = λ p place hs below is.
-            let of = are.each p below in
-            k.each (runs p) place hs (omega (arith, of.0, as_long)) is;
-        room = omega (arith, more, k.room);
+        most = λ p. most (runs p);
+        each = λ p place hs below is. most_at lock (get_or (known_in s) (runs p) []) place hs is;
+        room = omega (arith, few, all, k.room.fits, k.some);
       }
 
   has_ranks : HasWaitRanks rank is_strict locks parties

@@ -1,5 +1,5 @@
 -- What a look for an order finds, whatever parties run the programs.
-use Rattle.std.specs.Prelude.{◌≡◌, ◌≢◌, ℕ, ◌<◌, ◌≤◌, ◌==◌, Bool, true, false, not, ◌&&◌, ⊤, List, [], length, map, Option, Some, None, Ok, nat_le, nat_lt, Vec}
+use Rattle.std.specs.Prelude.{◌≡◌, ◌≢◌, ℕ, ◌<◌, ◌≤◌, ◌==◌, Bool, true, false, not, ⊤, List, [], ◌∷◌, ◌-◌, length, map, max, sum_by, Option, Some, None, Ok, Vec}
 use Rattle.std.specs.Global.{Global}
 use Rattle.std.specs.List.{list_all, list_any, position}
 use Rattle.std.specs.Option.{unwrap_or}
@@ -10,14 +10,17 @@ use Rattle.lock_modes.specs.Kind.{is_reentrant}
 use Rattle.lock_modes.specs.Modes.{readers}
 use Rattle.lock_plan.specs.declared.lock.PlanLock.{PlanLock}
 use Rattle.lock_plan.specs.declared.program.ProgramPlace.{ProgramPlace}
+use Rattle.lock_plan.specs.declared.fault.PlanFault.{PlanFault}
+use Rattle.lock_plan.specs.Checks.{IsFault}
 use Rattle.lock_plan.specs.Circles.{NeverDeadlocks}
 use Rattle.lock_plan.specs.Known.{Known, known_of}
 use Rattle.lock_plan.specs.Worlds.{no_lock}
 use Rattle.lock_plan_laws.specs.OrderChecks.{covers_from, keeps_from}
 use Rattle.lock_plan_laws.specs.Ranks.{IsOrderedPlan}
-use Rattle.lock_plan_laws.specs.WaitRanks.{IsLenient}
 use Rattle.lock_plan_order.specs.declared.lock_order.LockOrder.{LockOrder}
 use Rattle.lock_plan_order.specs.declared.lock_order.LockOrder.TheVariants.{Kept, NoCircle, Broken}
+use Rattle.lock_plan_order.specs.declared.order_fault.OrderFault.{OrderFault}
+use Rattle.lock_plan_order.specs.declared.order_fault.OrderFault.TheVariants.{Plan, OutOfTime}
 
 -- the rank of a lock is its place in the order
 abbrev pub rank_in : List ℕ → ℕ → ℕ
@@ -67,19 +70,26 @@ abbrev pub IsWithoutCircle : List PlanLock → List (List ProgramPlace) → List
 IsWithoutCircle locks programs many = (servers : List Bool) (parties : List (List ProgramPlace)) (runs : ℕ → ℕ)
     → AreRuns programs many parties runs → NeverDeadlocks servers locks parties
 
--- whether a party reads the lock at most so often, where that is known
-abbrev pub reads_at_most : ℕ → ℕ → Option (List Hold) → Bool
-reads_at_most lock most None = true
-reads_at_most lock most (Some holds) = nat_le (readers (get_or holds lock no_hold).bag) most
+-- how many reads of a lock a party has with these holds, if they are known, and the most that it has at a place
+abbrev pub reads_in : ℕ → Option (List Hold) → ℕ
+reads_in lock None = 0
+reads_in lock (Some holds) = readers (get_or holds lock no_hold).bag
 
--- whether the lock has neither a line nor a bar, and no program is run by any number of parties
-abbrev pub is_plain : PlanLock → List Bool → Bool
-is_plain lock many = (not lock.fair && (not lock.bar && (nat_lt 0 lock.limit && not (list_any (λ b. b) many))))
+abbrev pub most_reads : ℕ → Known → ℕ
+most_reads lock [] = 0
+most_reads lock (here ∷ known) = max (reads_in lock here) (most_reads lock known)
 
--- no program is run by any number of parties, and the lock with this number is lenient for one party of each program
-abbrev pub IsLenientAmong : PlanLock → List Bool → List Known → ℕ → Type 0
-IsLenientAmong lock many known number =
-    (list_any (λ b. b) many ≡ false) × IsLenient lock (length known) (λ program. get_or known program []) number
+-- each of the programs that any number of parties run has no read of the lock, and all programs together have at most so many
+pub record HasRoom (many : List Bool) (known : List Known) (lock room : ℕ) : Type 0 where
+  pub alone : (program : ℕ) → program < length known → get_or many program false ≡ true → most_reads lock (get_or known program []) ≡ 0
+  pub fits : sum_by (most_reads lock) known ≤ room
+
+-- the lock with this number has neither a line nor a bar, and parties with these programs never have as many reads as its limit
+pub record IsLenientAmong (lock : PlanLock) (many : List Bool) (known : List Known) (number : ℕ) : Type 0 where
+  pub no_line : lock.fair ≡ false
+  pub no_bar : lock.bar ≡ false
+  pub some : 0 < lock.limit
+  pub room : HasRoom many known number (lock.limit - 1)
 
 -- each lock that is not marked as strict is lenient
 abbrev pub AreStrict : List PlanLock → List Bool → List Known → List Bool → Type 0
@@ -90,3 +100,13 @@ abbrev pub IsLockOrder : List PlanLock → List (List ProgramPlace) → List Boo
 IsLockOrder locks programs many (Kept order) = IsKept locks programs order.items
 IsLockOrder locks programs many NoCircle = IsWithoutCircle locks programs many
 IsLockOrder locks programs many (Broken obstacles) = ⊤
+
+-- the fault of a plan, or the end of the budget
+abbrev pub IsOrderFault : Option PlanFault → OrderFault → Type 0
+IsOrderFault found (Plan fault) = IsFault found fault
+IsOrderFault found OutOfTime = ⊤
+
+-- a look for an order is out of time only if its budget has ended
+abbrev pub IsInTime : Bool → OrderFault → Type 0
+IsInTime has_ended (Plan fault) = ⊤
+IsInTime has_ended OutOfTime = has_ended ≡ true

@@ -3,6 +3,7 @@ use crate::lock_order::{HeldWait, Obstacle};
 use crate::setting::Setting;
 use crate::wait_place::WaitPlace;
 use std::alloc::{AllocError, Global};
+use step_search::Budget;
 
 /// Ranks of waits: each is above the waits that it may hold up, as far as there are such ranks.
 #[derive(Drop)]
@@ -14,22 +15,26 @@ pub(crate) struct Ranking {
 }
 
 impl Ranking {
-    /// Gives ranks: a wait gets the next one once all waits that it may hold up have theirs.
-    pub(crate) fn of(
+    /// Gives ranks until the budget ends: a wait gets the next one once all waits that it may hold up have theirs.
+    pub(crate) fn of<B: Budget>(
         alloc: Global,
         setting: Setting,
         waits: &[WaitPlace],
+        budget: &mut B,
     ) -> Result<Ranking, AllocError> {
         let mut ranking = Ranking {
             ranks: no_ranks(alloc, setting)?,
             is_ranked: vec![in alloc; false; waits.len()]?,
         };
-        let mut below = below_each(alloc, setting, waits)?;
+        let mut below = below_each(alloc, setting, waits, budget)?;
         let mut next = free_waits(alloc, below.as_slice())?;
         for rank in 0..waits.len() {
             let Some(at) = next.get(rank).copied() else {
                 break;
             };
+            if !budget.lasts(rank) {
+                break;
+            }
             ranking.give(waits, at, rank);
             lower(setting, waits, at, &mut below, &mut next)?;
         }
@@ -53,15 +58,19 @@ impl Ranking {
     }
 
     /// Adds two waits that may hold up each other, if there are two, or else another circle among those without a rank.
-    pub(crate) fn add_circle(
+    pub(crate) fn add_circle<B: Budget>(
         &self,
         alloc: Global,
         setting: Setting,
         waits: &[WaitPlace],
         found: &mut Vec<Obstacle>,
+        budget: &mut B,
     ) -> Result<(), AllocError> {
         let left = self.left(alloc, waits)?;
         for first in &left {
+            if !budget.lasts(left.len()) {
+                return Ok(());
+            }
             if let Some(second) = opposite(setting, left.as_slice(), *first) {
                 found.push(obstacle(*first, second))?;
                 if second != *first {
@@ -70,7 +79,7 @@ impl Ranking {
                 return Ok(());
             }
         }
-        add_longer_circle(setting, left.as_slice(), found)
+        add_longer_circle(setting, left.as_slice(), found, budget)
     }
 
     /// Returns the waits without a rank: each is in a circle, or may hold up another wait without one.
@@ -94,20 +103,27 @@ fn opposite(setting: Setting, left: &[WaitPlace], wait: WaitPlace) -> Option<Wai
 }
 
 /// Adds the waits of a circle, if there is one.
-fn add_longer_circle(
+fn add_longer_circle<B: Budget>(
     setting: Setting,
     left: &[WaitPlace],
     found: &mut Vec<Obstacle>,
+    budget: &mut B,
 ) -> Result<(), AllocError> {
     let Some(some) = left.first() else {
         return Ok(());
     };
     let mut first = *some;
     for _ in 0..left.len() {
+        if !budget.lasts(left.len()) {
+            return Ok(());
+        }
         first = before(setting, left, first);
     }
     let mut wait = first;
     for _ in 0..left.len() {
+        if !budget.lasts(left.len()) {
+            return Ok(());
+        }
         let next = before(setting, left, wait);
         found.push(obstacle(wait, next))?;
         if next == first {
@@ -139,13 +155,17 @@ fn no_ranks(alloc: Global, setting: Setting) -> Result<Vec<Vec<usize>>, AllocErr
 }
 
 /// Returns for each wait how many waits it may hold up.
-fn below_each(
+fn below_each<B: Budget>(
     alloc: Global,
     setting: Setting,
     waits: &[WaitPlace],
+    budget: &mut B,
 ) -> Result<Vec<usize>, AllocError> {
     let mut below = Vec::with_capacity(alloc, waits.len())?;
     for wait in waits {
+        if !budget.lasts(below.len()) {
+            break;
+        }
         below.push(
             waits
                 .iter()

@@ -10,13 +10,15 @@ use crate::coverage::{covers_at, fit_machines};
 use crate::lookups::{held_of, is_free, program_of};
 use lock_modes::{Hold, LockStep, ModeStep};
 use lock_plan::{Act, Holds, PlanLock, ProgramPlace, act_in};
+use step_search::Budget;
 
-/// Returns whether an order covers the locks, and each of the programs keeps it.
-pub(crate) fn is_kept(
+/// Returns whether an order covers the locks, and each of the programs keeps it, as far as it is seen before the budget ends.
+pub(crate) fn is_kept<B: Budget>(
     order: &[usize],
     locks: &[PlanLock],
     programs: &[Vec<ProgramPlace>],
     known: &[Vec<Option<Holds>>],
+    budget: &mut B,
 ) -> bool
     requires { AreKnown locks.now (map (λ v. v.items) programs.now) (map held_in known.now) }
     ensures { IsTrue result → IsKept locks.now (map (λ v. v.items) programs.now) order.now }
@@ -24,7 +26,7 @@ pub(crate) fn is_kept(
     if !fit_machines(locks) || !none_reentrant(locks) {
         return false;
     }
-    are_kept(order, programs, known)
+    are_kept(order, programs, known, budget)
 }
 
 /// Returns whether none of the locks is reentrant.
@@ -35,11 +37,21 @@ fn none_reentrant(locks: &[PlanLock]) -> bool
 }
 
 /// Returns whether each of the programs keeps the order.
-fn are_kept(order: &[usize], programs: &[Vec<ProgramPlace>], known: &[Vec<Option<Holds>>]) -> bool
+fn are_kept<B: Budget>(
+    order: &[usize],
+    programs: &[Vec<ProgramPlace>],
+    known: &[Vec<Option<Holds>>],
+    budget: &mut B,
+) -> bool
     ensures { IsTrue result → AreKept order.now (map (λ v. v.items) programs.now) (map held_in known.now) }
 {
     for party in 0..programs.len() {
-        if !keeps_from(order, program_of(programs, party), held_of(known, party)) {
+        if !keeps_from(
+            order,
+            program_of(programs, party),
+            held_of(known, party),
+            budget,
+        ) {
             return false;
         }
     }
@@ -47,12 +59,17 @@ fn are_kept(order: &[usize], programs: &[Vec<ProgramPlace>], known: &[Vec<Option
 }
 
 /// Returns whether a program keeps the order, at each place of which the holds are known.
-fn keeps_from(order: &[usize], program: &[ProgramPlace], known: &[Option<Holds>]) -> bool
-    ensures { result ≡ keeps_from (rank_in order.now) program.now 0 known.now }
+fn keeps_from<B: Budget>(
+    order: &[usize],
+    program: &[ProgramPlace],
+    known: &[Option<Holds>],
+    budget: &mut B,
+) -> bool
+    ensures { IsTrue result → IsTrue (keeps_from (rank_in order.now) program.now 0 known.now) }
 {
     let mut place = 0usize;
     for held in known {
-        if !keeps_at(order, act_in(program, place), held) {
+        if !budget.lasts(place) || !keeps_at(order, act_in(program, place), held) {
             return false;
         }
         place += 1;

@@ -11,6 +11,7 @@ use crate::setting::Setting;
 use crate::wait_place::WaitPlace;
 use lock_plan::{Holds, ProgramPlace, act_in};
 use std::alloc::{AllocError, Global};
+use step_search::Budget;
 
 /// Returns the places at which a party of a program blocks for a lock while it holds one.
 pub(crate) fn waits_of(
@@ -49,12 +50,14 @@ fn add_waits(
     Ok(())
 }
 
-/// Returns whether the waits have these ranks, and an order covers the locks and all acts.
-pub(crate) fn has_no_circle(
+/// Returns whether the waits have these ranks, and an order covers the locks and all acts, as far as it is seen before the
+/// budget ends.
+pub(crate) fn has_no_circle<B: Budget>(
     setting: Setting,
     programs: &[Vec<ProgramPlace>],
     ranks: &[Vec<usize>],
     waits: &[WaitPlace],
+    budget: &mut B,
 ) -> bool
     requires known { AreKnown setting.locks.now (map (λ v. v.items) programs.now) (known_in setting) }
     requires strict { AreStrict setting.locks.now setting.many.now (known_in setting) setting.strict.now }
@@ -64,16 +67,26 @@ pub(crate) fn has_no_circle(
     if !fit_machines(setting.locks) || !are_covered(programs, setting.known) {
         return false;
     }
-    are_ranked(setting, ranks, waits)
+    are_ranked(setting, ranks, waits, budget)
 }
 
 /// Returns whether each wait is below all that may hold it up.
-fn are_ranked(setting: Setting, ranks: &[Vec<usize>], waits: &[WaitPlace]) -> bool
-    ensures { result ≡ are_ranked setting.entry (map (λ v. v.items) ranks.now) waits.now }
+fn are_ranked<B: Budget>(
+    setting: Setting,
+    ranks: &[Vec<usize>],
+    waits: &[WaitPlace],
+    budget: &mut B,
+) -> bool
+    ensures { IsTrue result → IsTrue (are_ranked setting.entry (map (λ v. v.items) ranks.now) waits.now) }
 {
-    waits
-        .iter()
-        .all(|wait| is_below_all(setting, ranks, waits, *wait))
+    let mut rest = waits;
+    while let Some((wait, after)) = rest.split_first() {
+        if !budget.lasts(rest.len()) || !is_below_all(setting, ranks, waits, *wait) {
+            return false;
+        }
+        rest = after;
+    }
+    true
 }
 
 fn is_below_all(

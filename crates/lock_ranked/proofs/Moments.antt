@@ -1,10 +1,9 @@
 -- A chain of holders that sleep would rise for ever.
-use Rattle.std.proofs.Common.{◌≡◌, ℕ, zero, suc, ◌+◌, ◌^◌, ◌<◌, ◌≤◌, Bool, true, false, ◌==◌, ◌&&◌, ◌||◌, if◌then◌else◌, List, [], ◌∷◌, slice_get, Some, ◌⊎◌, inl, inr, IsTrue, refl, sym, ap, subst, ◌∙◌, arith, ltb-true, eq-eqb}
-use Rattle.std.proofs.lemmas.Bool.{false≢true, true≢false, cases_Bool}
+use Rattle.std.proofs.Common.{◌≡◌, ℕ, zero, suc, ◌+◌, ◌^◌, ◌<◌, ◌≤◌, Bool, true, false, not, ◌==◌, ◌&&◌, ◌||◌, List, [], ◌∷◌, slice_get, Some, ◌⊎◌, inl, inr, IsTrue, refl, sym, ap, subst, ◌∙◌, arith, ltb-true}
+use Rattle.std.proofs.lemmas.Bool.{false≢true, cases_Bool}
 use Rattle.std.proofs.lemmas.List.Sums.{sum_by-cons}
 use Rattle.std.proofs.lemmas.Option.{slice_get-map}
 use Rattle.lock_modes.specs.declared.hold.Hold.{Hold}
-use Rattle.lock_modes.specs.Limits.{IsLimit}
 use Rattle.lock_modes.specs.Modes.{tokens}
 use Rattle.lock_modes.specs.Holds.{hold_has}
 use Rattle.lock_word.specs.declared.want.ExWant.{ExWant}
@@ -16,12 +15,13 @@ use Rattle.lock_word.specs.Unblocking.{is_awaited}
 use Rattle.lock_word.proofs.Holders.{part_of_all}
 use Rattle.lock_one.specs.declared.park.ParkView.{ParkView}
 use Rattle.lock_one.specs.declared.park.Park.TheVariants.{Asleep}
-use Rattle.lock_one.specs.declared.park.Debt.{Debt}
 use Rattle.lock_one.specs.declared.park.Debt.TheVariants.{Nothing}
-use Rattle.lock_one.specs.Machine.{core_of, has_sleepers}
-use Rattle.lock_one.specs.Rule.{holds_of, admits_to, is_woken, reaches, has_duty, serves, SomeoneServes, IsServed}
-use Rattle.lock_one.specs.Runs.{LockInUse, views_of, limits_in, ThreadsAreServed}
-use Rattle.lock_ranked.specs.Moments.{Moment, PartyOf, SleepsFor, HoldsLock, IsPending, IsInOrder, SomeHolderIsAwake}
+use Rattle.lock_one.specs.Machine.{core_of, has_turn}
+use Rattle.lock_one.specs.Rule.{holds_of, admits_to, passes_turn, IsRefused, is_woken, reaches, has_duty, serves}
+use Rattle.lock_one.specs.Runs.{Thread, LockInUse, views_of, limits_in, IsTurnOf, ThreadsAreServed}
+use Rattle.lock_one.proofs.RunViews.{view_in}
+use Rattle.lock_one.proofs.Parking.{mutex_held, mutex_taken, others_admit}
+use Rattle.lock_ranked.specs.Moments.{Moment, PartyOf, SleepsFor, HoldsLock, IsPending, IsTurning, IsInOrder, SomeHolderIsAwake}
 
 abbrev tokens_of : ParkView → ℕ
 tokens_of v = tokens v.held.bag
@@ -92,7 +92,8 @@ upgrades_own own want is entitled =
 -- where no wake-up is owed, and no woken thread has yet to look, the word refuses each sleeper
 none_serves : (readers : ℕ) (server v : ParkView) (want : ExWant) → server.debt ≡ Nothing → is_woken server.park ≡ false → serves (limits_in readers) server v want ≡ false
 none_serves readers server v want owes awake =
-    ap (λ d. reaches (limits_in readers) d v want || has_duty (limits_in readers) server) owes ∙ by (readers == 1) awake
+    ap (λ d. reaches (limits_in readers) d v want || (has_duty (limits_in readers) server && not v.held.announced)) owes
+    ∙ ap (λ b. b && not v.held.announced) (by (readers == 1) awake)
   where
     by : (b : Bool) → is_woken server.park ≡ false → (b && is_woken server.park) ≡ false
     by true e = e
@@ -101,6 +102,7 @@ none_serves readers server v want owes awake =
 module _ (s : LockInUse) (served : ThreadsAreServed s)
     (rests : (k : ℕ) (v : ParkView) → slice_get (views_of s.threads) k ≡ Some v → (v.debt ≡ Nothing) × (is_woken v.park ≡ false))
     (pending : (k : ℕ) (v : ParkView) → slice_get (views_of s.threads) k ≡ Some v → v.held.announced ≡ true → v.park ≡ Asleep Exclusive)
+    (turning : (k : ℕ) (t : Thread) → slice_get s.threads k ≡ Some t → IsTurnOf t → t.view.park ≡ Asleep Shared)
     (k : ℕ) (v : ParkView) (want : ExWant) (at : slice_get (views_of s.threads) k ≡ Some v) (sleeps : v.park ≡ Asleep want) where
   abbrev views : List ParkView
   views = views_of s.threads
@@ -108,8 +110,9 @@ module _ (s : LockInUse) (served : ThreadsAreServed s)
   abbrev word : ℕ
   word = core_of s.word
 
-  refuses : (j : ℕ) (w : ParkView) (wish : ExWant) → slice_get views j ≡ Some w → w.park ≡ Asleep wish → admits_to (limits_in s.readers) word w wish ≡ false
-  refuses j w wish is asleep =
+  -- the core refuses each sleeper, or T does
+  refuses_or_turns : (j : ℕ) (w : ParkView) (wish : ExWant) → slice_get views j ≡ Some w → w.park ≡ Asleep wish → IsRefused (limits_in s.readers) word (has_turn s.word) w wish
+  refuses_or_turns j w wish is asleep =
       elim (served.none_forgotten j w wish is asleep) [
         | inl set ↦ set.1
         | inr someone ↦
@@ -117,35 +120,49 @@ module _ (s : LockInUse) (served : ThreadsAreServed s)
             absurd (false≢true (sym (none_serves s.readers someone.server w wish rest.0 rest.1) ∙ someone.does)))
       ]
 
-  -- a mutex refuses if it is not free, and any other lock as its word does
-  mutex_taken : (s.readers == 1) ≡ true → word ≡ 0 → ⊥
-  mutex_taken one free =
-      let refused = subst (λ b. (if b then word == 0 else word_admits v.held.announced s.readers word want) ≡ false) one (refuses k v want at sleeps) in
-      true≢false (sym (eq-eqb word 0 free) ∙ refused)
+  -- the core refuses those that T lets pass
+  refuses : (j : ℕ) (w : ParkView) (wish : ExWant) → slice_get views j ≡ Some w → w.park ≡ Asleep wish → passes_turn w.held.announced wish ≡ true
+      → admits_to (limits_in s.readers) word w wish ≡ false
+  refuses j w wish is asleep passes =
+      elim (refuses_or_turns j w wish is asleep) [ inl core ↦ core | inr turn ↦ absurd (false≢true (sym turn.1 ∙ passes)) ]
 
+  -- in a lock for several readers, the word refuses each of them
   word_refuses : (s.readers == 1) ≡ false → (j : ℕ) (w : ParkView) (wish : ExWant) → slice_get views j ≡ Some w → w.park ≡ Asleep wish
-      → word_admits w.held.announced s.readers word wish ≡ false
-  word_refuses many j w wish is asleep =
-      subst (λ b. (if b then word == 0 else word_admits w.held.announced s.readers word wish) ≡ false) many (refuses j w wish is asleep)
+      → passes_turn w.held.announced wish ≡ true → word_admits w.held.announced s.readers word wish ≡ false
+  word_refuses many j w wish is asleep passes = sym (others_admit (limits_in s.readers) word w wish many) ∙ refuses j w wish is asleep passes
 
   own_part : (j : ℕ) (w : ParkView) → slice_get views j ≡ Some w → slice_get (holds_of views) j ≡ Some w.held
   own_part j w is = rw (slice_get-map (λ (x : ParkView). x.held) views j, is)
 
-  -- a sleeper is not refused by a free word
-  not_free : (all_of (holds_of views)).bars ≡ 0 → tokens (all_of (holds_of views)).bag ≡ 0 → ⊥
-  not_free none empty =
+  -- the core of a free word refuses no sleeper
+  not_refused : (all_of (holds_of views)).bars ≡ 0 → tokens (all_of (holds_of views)).bag ≡ 0
+      → (j : ℕ) (w : ParkView) (wish : ExWant) → slice_get views j ≡ Some w → w.park ≡ Asleep wish → admits_to (limits_in s.readers) word w wish ≡ false → ⊥
+  not_refused none empty j w wish is asleep core =
       let coded = served.coded in
       let free : word ≡ 0 = omega arith in
       elim (cases_Bool (s.readers == 1)) [
-        | inl one ↦ mutex_taken one free
+        | inl one ↦ mutex_taken (limits_in s.readers) word w wish one core free
         | inr many ↦
-            (let refused = subst (λ w. word_admits v.held.announced s.readers w want ≡ false) free (word_refuses many k v want at sleeps) in
-            let entitled = served.entitled k v want at sleeps in
-            let upgrade = free_admits v.held.announced s.readers want served.range.0 entitled.0 refused in
-            let own = upgrades_own v.held want upgrade entitled.1 in
-            let part = part_of_all (holds_of views) k v.held (own_part k v at) in
+            (let refused : word_admits w.held.announced s.readers 0 wish ≡ false
+            = subst (λ n. word_admits w.held.announced s.readers n wish ≡ false) free (sym (others_admit (limits_in s.readers) word w wish many) ∙ core) in
+            let entitled = served.entitled j w wish is asleep in
+            let upgrade = free_admits w.held.announced s.readers wish served.range.0 entitled.0 refused in
+            let own = upgrades_own w.held wish upgrade entitled.1 in
+            let part = part_of_all (holds_of views) j w.held (own_part j w is) in
             let le = part.upgradable in
             omega arith)
+      ]
+
+  -- a sleeper is not refused by a free word, nor by the turn of a reader that sleeps too
+  not_free : (all_of (holds_of views)).bars ≡ 0 → tokens (all_of (holds_of views)).bag ≡ 0 → ⊥
+  not_free none empty =
+      elim (refuses_or_turns k v want at sleeps) [
+        | inl core ↦ not_refused none empty k v want at sleeps core
+        | inr turn ↦
+            (let owner = served.turn_owned turn.0 in
+            let asleep = turning owner.number owner.thread owner.is owner.owns in
+            let is = view_in s.threads owner.number owner.thread owner.is in
+            not_refused none empty owner.number owner.thread.view Shared is asleep (refuses owner.number owner.thread.view Shared is asleep refl))
       ]
 
   -- nor by the bar of a writer that sleeps too
@@ -154,12 +171,11 @@ module _ (s : LockInUse) (served : ThreadsAreServed s)
       let coded = served.coded in
       let one_bar = served.legal.one_bar in
       let bar : word ≡ 2 ^ 34 = omega arith in
+      let f = found_bar views some in
+      let asleep = pending f.number f.view f.is f.has in
       elim (cases_Bool (s.readers == 1)) [
-        | inl one ↦ (let low = served.no_bar one in omega arith)
-        | inr many ↦
-            (let f = found_bar views some in
-            let refused = word_refuses many f.number f.view Exclusive f.is (pending f.number f.view f.is f.has) in
-            barred_admits f.view.held.announced s.readers word f.has bar refused)
+        | inl one ↦ mutex_held (limits_in s.readers) word f.view Exclusive one f.has (refuses f.number f.view Exclusive f.is asleep f.has) (omega arith)
+        | inr many ↦ barred_admits f.view.held.announced s.readers word f.has bar (word_refuses many f.number f.view Exclusive f.is asleep f.has)
       ]
 
   -- so a lock for which a thread sleeps has a token
@@ -172,21 +188,27 @@ module _ (s : LockInUse) (served : ThreadsAreServed s)
   some_token (suc n) is = omega arith
 
 module _ (top : ℕ) (m : Moment) (o : IsInOrder top m)
-    (all : (thread lock : ℕ) → HoldsLock m thread lock ⊎ IsPending m thread lock → (wanted : ℕ) × SleepsFor m thread wanted) where
+    (all : (thread lock : ℕ) → HoldsLock m thread lock ⊎ (IsPending m thread lock ⊎ IsTurning m thread lock) → (wanted : ℕ) × SleepsFor m thread wanted) where
   abbrev party_at : (lock k : ℕ) (v : ParkView) → slice_get (views_of (m.lock lock).threads) k ≡ Some v → PartyOf m (m.thread lock k) lock
   party_at lock k v at = record { number = k; view = v; is = at; own = refl }
 
   writer_sleeps : (lock k : ℕ) (v : ParkView) → slice_get (views_of (m.lock lock).threads) k ≡ Some v → v.held.announced ≡ true → v.park ≡ Asleep Exclusive
   writer_sleeps lock k v at is =
       let writer : IsPending m (m.thread lock k) lock = record { party = party_at lock k v at; announced = is } in
-      let next = all (m.thread lock k) lock (inr writer) in
+      let next = all (m.thread lock k) lock (inr (inl writer)) in
       o.pending (m.thread lock k) lock next.0 writer next.1
+
+  reader_sleeps : (lock k : ℕ) (t : Thread) → slice_get (m.lock lock).threads k ≡ Some t → IsTurnOf t → t.view.park ≡ Asleep Shared
+  reader_sleeps lock k t at turns =
+      let reader : IsTurning m (m.thread lock k) lock = record { number = k; party = t; is = at; own = refl; turns = turns } in
+      let next = all (m.thread lock k) lock (inr (inr reader)) in
+      o.turning (m.thread lock k) lock next.0 reader next.1
 
   rises : (n thread lock : ℕ) → SleepsFor m thread lock → top ≤ m.rank lock + n → ⊥
   rises zero thread lock s le = let h = o.below thread lock s in omega (arith, h, le)
   rises (suc n) thread lock s le =
       let views = views_of (m.lock lock).threads in
-      let some = some_token (m.lock lock) (o.served lock) (o.at_rest lock) (writer_sleeps lock) s.party.number s.party.view s.want s.party.is s.sleeps
+      let some = some_token (m.lock lock) (o.served lock) (o.at_rest lock) (writer_sleeps lock) (reader_sleeps lock) s.party.number s.party.view s.want s.party.is s.sleeps
       (tokens (all_of (holds_of views)).bag) refl in
       let f = found_token views some in
       let holder : HoldsLock m (m.thread lock f.number) lock = record { party = party_at lock f.number f.view f.is; holds = f.has } in

@@ -2,12 +2,12 @@
 use Rattle.std.specs.Prelude.{◌≡◌, ℕ, ◌<◌, true, false, slice_get, Some, ◌⊎◌}
 use Rattle.lock_modes.specs.Modes.{tokens}
 use Rattle.lock_word.specs.declared.want.ExWant.{ExWant}
-use Rattle.lock_word.specs.declared.want.ExWant.TheVariants.{Exclusive}
+use Rattle.lock_word.specs.declared.want.ExWant.TheVariants.{Shared, Exclusive}
 use Rattle.lock_one.specs.declared.park.ParkView.{ParkView}
 use Rattle.lock_one.specs.declared.park.Park.TheVariants.{Asleep}
 use Rattle.lock_one.specs.declared.park.Debt.TheVariants.{Nothing}
 use Rattle.lock_one.specs.Rule.{is_woken}
-use Rattle.lock_one.specs.Runs.{LockInUse, views_of, ThreadsAreServed}
+use Rattle.lock_one.specs.Runs.{Thread, LockInUse, views_of, IsTurnOf, ThreadsAreServed}
 
 -- several locks in use, and their ranks; and the thread of each party of a lock
 pub record Moment : Type 0 where
@@ -38,6 +38,14 @@ pub record IsPending (m : Moment) (thread lock : ℕ) : Type 0 where
   pub party : PartyOf m thread lock
   pub announced : party.view.held.announced ≡ true
 
+-- the thread has set T at the lock, as a reader whose turn it is
+pub record IsTurning (m : Moment) (thread lock : ℕ) : Type 0 where
+  pub number : ℕ
+  pub party : Thread
+  pub is : slice_get (m.lock lock).threads number ≡ Some party
+  pub own : m.thread lock number ≡ thread
+  pub turns : IsTurnOf party
+
 pub record IsInOrder (top : ℕ) (m : Moment) : Type 0 where
   -- what `every_run_is_served` says of each lock; no wake-up is owed, and no woken thread has yet to look
   pub served : (lock : ℕ) → ThreadsAreServed (m.lock lock)
@@ -47,9 +55,11 @@ pub record IsInOrder (top : ℕ) (m : Moment) : Type 0 where
   pub below : (thread lock : ℕ) → SleepsFor m thread lock → m.rank lock < top
   -- a pending writer that sleeps does so for the lock where it is pending, as that party
   pub pending : (thread lock wanted : ℕ) (writer : IsPending m thread lock) → SleepsFor m thread wanted → writer.party.view.park ≡ Asleep Exclusive
+  -- so does a reader whose turn it is
+  pub turning : (thread lock wanted : ℕ) (reader : IsTurning m thread lock) → SleepsFor m thread wanted → reader.party.view.park ≡ Asleep Shared
 
--- if each holder and each pending writer slept, no thread would sleep
+-- if each holder, each pending writer and each reader whose turn it is slept, no thread would sleep
 abbrev pub SomeHolderIsAwake : Type 0
 SomeHolderIsAwake = (top : ℕ) (m : Moment) → IsInOrder top m
-    → ((thread lock : ℕ) → HoldsLock m thread lock ⊎ IsPending m thread lock → (wanted : ℕ) × SleepsFor m thread wanted)
+    → ((thread lock : ℕ) → HoldsLock m thread lock ⊎ (IsPending m thread lock ⊎ IsTurning m thread lock) → (wanted : ℕ) × SleepsFor m thread wanted)
     → (thread lock : ℕ) → SleepsFor m thread lock → ⊥

@@ -4,7 +4,7 @@ use Rattle.std.specs.Prelude.{◌≡◌, ◌<◌, ℕ, Bool, true, false, Option
 use Rattle.std.specs.Time.{instant_nanos}
 use Rattle.std.specs.declared.time.Instant.{Instant}
 use Rattle.atomic_table.specs.Seated.{TableId}
-use Rattle.lock_wake.specs.EventCalls.{Ended, Asleep, HasSlept, waiters_of}
+use Rattle.lock_wake.specs.EventCalls.{Ended, Asleep, HasSlept}
 
 abbrev pub Waited : {T : Type 0} → TableId → T → Type 0
 Waited events token = (wait : Asleep) × HasSlept events token None wait
@@ -17,8 +17,8 @@ WaitedUntil events token deadline timed_out =
 -- a notification of one has ended, and the answer is whether it found a wait
 abbrev pub NotifiedOne : TableId → Bool → Type 0
 NotifiedOne events woke =
-    (ended : Ended) × (ended.events ≡ events) × (ended.all ≡ false) × (IsTrue woke ↔ (0 < waiters_of ended.waits))
+    (ended : Ended) × (ended.events ≡ events) × (ended.all ≡ false) × (IsTrue woke ↔ (0 < ended.waits))
 
 -- a notification of all has ended, and the answer is how many waits it found
 abbrev pub NotifiedAll : TableId → ℕ → Type 0
-NotifiedAll events count = (ended : Ended) × (ended.events ≡ events) × (ended.all ≡ true) × (count ≡ waiters_of ended.waits)
+NotifiedAll events count = (ended : Ended) × (ended.events ≡ events) × (ended.all ≡ true) × (count ≡ ended.waits)

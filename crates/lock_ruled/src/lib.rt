@@ -1,5 +1,6 @@
-//! A mutex whose value is known across threads. It is made with a rule: a fact about the value and the views of all
-//! users. The rule holds whenever the mutex is free, and each release proves that it is kept.
+//! A mutex whose value is known across threads: what a plain `Mutex` cannot promise, since its callers know only the type of
+//! its value. It is made with a rule, a fact about the value and the views of all users. The rule holds whenever the mutex is
+//! free, and each release proves that it is kept. So counters, queues and pools have exact results in their contracts.
 //!
 //! `Semaphore` counts its free permits in such a mutex, and its callers keep a `Holder` each. `SharedSemaphore` counts them
 //! in one atomic word, and each acquisition returns a token.

@@ -1,28 +1,31 @@
 -- What contracts see of a call.
-use Rattle.std.specs.Prelude.{◌≡◌, ℕ, ◌%◌, Bool, Option, if◌then◌else◌}
+use Rattle.std.specs.Prelude.{◌≡◌, ℕ, Option, if◌then◌else◌}
 use Rattle.std.specs.Time.{instant_nanos}
 use Rattle.std.specs.declared.time.Instant.{Instant}
 use Rattle.atomic_table.specs.Seated.{TableId}
-use Rattle.lock_wake.specs.declared.sleepers.stage.CallStage.{CallStage}
+use Rattle.lock_events.specs.declared.call.EventCall.{EventCall}
+use Rattle.lock_events.specs.declared.stage.EventStage.{EventStage}
+use Rattle.lock_events.specs.declared.stage.EventStage.TheVariants.{Unlock}
+use Rattle.lock_events.specs.Words.{last_epoch}
 use Rattle.lock_wake.specs.declared.owed_wake.OwedWake.{OwedWake}
 use Rattle.lock_wake.specs.declared.owed_wake.Whom.TheVariants.{One, All}
-use Rattle.lock_wake.specs.EventCounts.{closed_count}
 use Rattle.lock_wake.specs.OwedWakes.{owed}
 pub use Rattle.lock_wake.specs.EventSeals.{Ended, Asleep, Keeper, PassedDeadline}
 
--- a call: its event count, its number in the order in which calls began, and its stage
+-- a call: its event count, its number in the order in which calls began, and the call as the machine has it
 pub record EventCallView : Type 0 where
   pub events : TableId
   pub number : ℕ
-  pub stage : CallStage
+  pub call : EventCall
 
--- how many waits the count told: none while the epochs begin anew
-abbrev pub waiters_of : ℕ → ℕ
-waiters_of count = count % closed_count
+-- the wake-up that a notification owes, at the word
+abbrev pub owed_by : EventCall → OwedWake
+owed_by call = owed 0 (if call.all then All else One)
 
--- the wake-up that a notification of all or of one owes, at the word of the epoch
-abbrev pub owed_to : Bool → OwedWake
-owed_to all = owed 1 (if all then All else One)
+-- the epoch in which a wait sleeps. One that has found no room yields, as in the last epoch
+abbrev pub watched_at : EventStage → ℕ → ℕ
+watched_at Unlock epoch = epoch
+watched_at other epoch = last_epoch
 
 -- a thread looked at the clock, and the deadline had passed or the clock could not be read
 abbrev pub HasPassed : Instant → Type 0

@@ -1,79 +1,85 @@
 -- What each kind of step tells the call that makes it.
-use Rattle.std.specs.Prelude.{◌≡◌, ◌≢◌, ℕ, ◌+◌, ◌<◌, ◌≤◌, Bool}
+use Rattle.std.specs.Prelude.{◌≡◌, ℕ, ◌+◌, ◌-◌, ◌≤◌, Bool, true, false, IsTrue}
 use Rattle.atomic_table.specs.Table.{Me, Step}
-use Rattle.lock_wake.specs.declared.sleepers.stage.CallStage.{CallStage}
-use Rattle.lock_wake.specs.declared.sleepers.stage.CallStage.TheVariants.{Away, Counted, Registered, Restarts, FoundNone, Owes, OwesAt, OwesWake, Over}
-use Rattle.lock_wake.specs.EventCounts.{last_epoch, count_of}
+use Rattle.lock_events.specs.declared.act.Begun.{Begun}
+use Rattle.lock_events.specs.declared.action.EventAction.{EventAction}
+use Rattle.lock_events.specs.declared.action.EventAction.TheVariants as action
+use Rattle.lock_events.specs.declared.call.EventCall.{EventCall}
+use Rattle.lock_events.specs.declared.stage.EventStage.{EventStage}
+use Rattle.lock_events.specs.declared.stage.EventStage.TheVariants.{CountIn, Unlock, UnlockAway, Lock, EndEpoch, EndAllEpochs, Wake, Notified, Skipped}
+use Rattle.lock_events.specs.Words.{decoded, one_wait}
+use Rattle.lock_events.specs.Events.{waiting, notifying, most_lost, action_of, event_next, event_to, wait_at, notify_at, is_notified}
+use Rattle.lock_events.specs.Kept.{is_registered}
+use Rattle.lock_events.specs.Runs.{begun_call}
 
--- a call's stage, and the slots that it holds: none
+-- a call, and the slots that its seat holds: none
 abbrev pub Self : Type 0
-Self = Me (Unit {0}) CallStage
+Self = Me (Unit {0}) Begun
 
-abbrev pub at_stage : Self → CallStage → Self
-at_stage me stage = (stage, me.1)
+-- the load with which a call begins
+abbrev pub BeginsToWait : ℕ → Self → Type 0
+BeginsToWait found after = after.0 ≡ begun_call (wait_at found waiting)
 
--- how many calls had begun when the wait registered
-abbrev pub before_of : CallStage → ℕ
-before_of (Registered before epoch) = before
-before_of stage = 0
+abbrev pub BeginsToNotify : Bool → ℕ → Self → Type 0
+BeginsToNotify all found after = after.0 ≡ begun_call (notify_at found (notifying all))
 
--- how many waits the notification found
-abbrev pub waits_of : CallStage → ℕ
-waits_of (Owes waits) = waits
-waits_of (OwesAt waits epoch) = waits
-waits_of (OwesWake waits reached) = waits
-waits_of (Over all waits reached) = waits
-waits_of stage = 0
+-- the step is the action that the call asks for, and the call goes on by its answer
+abbrev pub Makes : EventAction → Self → ℕ → Self → Type 0
+Makes made me found after = (action_of me.0.call ≡ made) × (after.0.call ≡ event_next found me.0.call)
 
--- the epoch that had begun before the notification wakes
-abbrev pub reached_of : CallStage → ℕ
-reached_of (OwesWake waits reached) = reached
-reached_of (Over all waits reached) = reached
-reached_of stage = 0
+abbrev pub Exchanges : Step (Unit {0}) → Self → ℕ → Self → Type 0
+Exchanges s me found after = Makes (action.Exchange s.first s.second) me found after
 
--- on the count
-abbrev pub Arrives : Self → ℕ → Self → Type 0
-Arrives me found after = after ≡ at_stage me Away
+abbrev pub SetsBits : Step (Unit {0}) → Self → ℕ → Self → Type 0
+SetsBits s me found after = Makes (action.Or s.first) me found after
 
-abbrev pub Begins : Self → ℕ → Self → Type 0
-Begins me found after = (found ≡ 0 → after ≡ at_stage me FoundNone) × (found ≢ 0 → after ≡ at_stage me (Owes found))
+-- the subtraction that ends a registered wait, which has slept
+abbrev pub Leaves : Step (Unit {0}) → Self → Self → Type 0
+Leaves s me after = (s.first ≡ one_wait) × IsTrue (is_registered me.0.call.stage) × (after.0.call ≡ event_to Lock me.0.call)
 
--- the step writes the count that it compares with, and 1
-abbrev pub CountsIn : Step (Unit {0}) → Self → ℕ → Self → Type 0
-CountsIn s me found after =
-    (s.second ≡ s.first + 1) × (found ≡ s.first → after ≡ at_stage me Counted) × (found ≢ s.first → after ≡ me)
+-- a load after the wake-up
+abbrev pub Wakes : Self → Self → Type 0
+Wakes me after = (me.0.call.stage ≡ Wake) × (after.0.call ≡ event_to Notified me.0.call)
 
--- the step subtracts what the call counts for
-abbrev pub CountsOut : Step (Unit {0}) → Self → Self → Type 0
-CountsOut s me after = (s.first ≡ count_of me.0) × (after ≡ at_stage me Away)
+-- the stages of a wait that has yet to release its lock
+abbrev pub is_arriving : EventStage → Bool
+is_arriving CountIn = true
+is_arriving Unlock = true
+is_arriving UnlockAway = true
+is_arriving other = false
 
-abbrev pub Closes : Self → ℕ → Self → Type 0
-Closes me found after = (found ≡ 0 → after ≡ at_stage me Restarts) × (found ≢ 0 → after ≡ me)
+-- it has registered, or has found no room
+abbrev pub has_arrived : EventStage → Bool
+has_arrived Unlock = true
+has_arrived UnlockAway = true
+has_arrived other = false
 
--- on the epoch
-abbrev pub Registers : Self → ℕ → Self → Type 0
-Registers me found after =
-    (found < last_epoch → after ≡ at_stage me (Registered (before_of after.0) found)) × (last_epoch ≤ found → after ≡ me)
+-- the stages of a notification that has looked at the word
+abbrev pub is_notifying : EventStage → Bool
+is_notifying EndEpoch = true
+is_notifying EndAllEpochs = true
+is_notifying Wake = true
+is_notifying Skipped = true
+is_notifying other = false
 
-abbrev pub BeginsAnew : Step (Unit {0}) → Self → Self → Type 0
-BeginsAnew s me after = (s.first ≡ 0) × (after ≡ me)
-
-abbrev pub Notes : Self → ℕ → Self → Type 0
-Notes me found after =
-    (found < last_epoch → after ≡ at_stage me (OwesAt (waits_of me.0) found))
-    × (last_epoch ≤ found → after ≡ at_stage me (OwesWake (waits_of me.0) found))
-
--- the step ends the epoch that the notification loaded, or another call had ended it: either way the next one has begun
-abbrev pub Ends : Step (Unit {0}) → Self → Self → Type 0
-Ends s me after =
-    (me.0 ≡ OwesAt (waits_of me.0) s.first) × (s.second ≡ s.first + 1) × (after ≡ at_stage me (OwesWake (waits_of me.0) s.second))
-
--- a load after the wake
-abbrev pub Wakes : Bool → Self → Self → Type 0
-Wakes all me after = after ≡ at_stage me (Over all (waits_of me.0) (reached_of me.0))
+-- a notification of all or of one that has yet to wake
+pub record NotifiesAs (all : Bool) (call : EventCall) : Type 0 where
+  pub stage : is_notifying call.stage ≡ true
+  pub wide : all ≡ true → call.all ≡ true
+  pub none : call.stage ≡ Skipped → all ≡ true → (decoded call.loaded).count ≡ 0
+  pub few : call.lost ≤ most_lost
 
 -- a notification of all or of one that has ended: it found so many waits
-abbrev pub IsOver : Bool → ℕ → CallStage → Type 0
-IsOver all waits FoundNone = waits ≡ 0
-IsOver all waits (Over woke found reached) = (woke ≡ all) × (found ≡ waits)
-IsOver all waits stage = ⊥
+pub record IsOver (all : Bool) (waits : ℕ) (call : EventCall) : Type 0 where
+  pub ended : is_notified call.stage ≡ true
+  pub found : waits ≡ (decoded call.loaded).count
+  pub wide : all ≡ true → call.all ≡ true
+  pub none : call.stage ≡ Skipped → all ≡ true → waits ≡ 0
+
+-- how many exchanges the notification may still lose, and one more
+abbrev pub left_at : EventStage → ℕ → ℕ
+left_at EndEpoch lost = most_lost + 1 - lost
+left_at other lost = 0
+
+abbrev pub lost_left : EventCall → ℕ
+lost_left call = left_at call.stage call.lost

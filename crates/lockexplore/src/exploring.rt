@@ -1,229 +1,225 @@
-//! From a reader's plan to a writer's answer.
-ghost use Rattle.std.specs.Prelude.{◌≡◌, ◌⊎◌, map, Some, IfErr, IfOk, string_bytes};
-ghost use Rattle.std.specs.Io.KnownBytes.{Keeps};
-ghost use Rattle.script_text.specs.Streams.{ReadsScript};
-ghost use Rattle.lockexplore.specs.PlainTexts.{IsShort, line_number, plain_text};
-ghost use Rattle.lock_plan_text.specs.declared.parser.fault.PlanTextFault.TheVariants.{OutOfMemory};
-ghost use Rattle.lock_plan.specs.Checks.{IsFault, parties_fault};
-ghost use Rattle.lock_plan_order.specs.LockOrders.{IsLockOrder};
-ghost use Rattle.lock_plan_text.specs.Drafted.{drafted};
-ghost use Rattle.lock_plan_text.specs.Texts.{are_many};
-ghost use Rattle.lock_plan_answer.specs.LineMarks.{line_mark, mark_by};
-ghost use Rattle.lock_plan_answer.specs.LineNumbers.{number_by};
-ghost use Rattle.lock_plan_text.specs.PartyLines.{numbers_in};
-ghost use Rattle.lock_plan_text.specs.PlanFaults.{draft_fault};
-ghost use Rattle.lockexplore.specs.declared.arguments.AnswerForm.TheVariants.{Lines};
-ghost use Rattle.lockexplore.specs.PlanAnswers.{IsOrderAnswer, IsPlanAnswer, IsTextIn, is_by_order, mark_in};
-ghost use Rattle.lockexplore.specs.Explorations.{AppendsPlanAnswer, ExplainsPlanFault, IsBeforePlanAnswer, IsPlanFault, IsScriptFault};
-
-use crate::arguments::AnswerForm;
+//! From a reader's plan to the text of an answer.
+use crate::answer::{answer_text, json_lines, order_text};
+use crate::arguments::Request;
+use crate::bad_text::bad_text;
 use crate::ending::ending_warning;
 use crate::hold_bytes::left_beside_holds;
-use crate::lines::LinesFault;
 use crate::no_answer::NoAnswer;
-use crate::plain::PlainText;
+use crate::options::Form;
+use crate::order_budget::OrderBudget;
 use crate::verdict::Verdict;
-use lock_plan::{Explored, PlanFault, explore};
-use lock_plan_answer::{
-    LineMark, LineNumbers, draw_picture, write_answer, write_drawing, write_order,
-};
-use lock_plan_order::{LockOrder, find_order};
-use lock_plan_text::{NamedPlan, PlanText, PlanTextFault, parse_text};
-use script_text::{put, read_script};
-use std::alloc::{AllocError, Global};
-use std::io::{Read, Write};
+use lock_plan::explore;
+use lock_plan_order::{OrderFault, find_order};
+use plan_text::{BadLine, Core, TextFault, read_core, read_plan};
+use script_text::read_script;
+use std::alloc::{AllocError, AllocFailed, Global};
+use std::io::Read;
 use step_search::Budget;
 
-/// Reads a plan to its end, searches all its interleavings in so many bytes until the budget ends, and then writes the
-/// answer in this form. A searched plan may get a warning.
+/// An answer: what it says, its text, and a warning of the plan.
+#[derive(Drop)]
+pub(crate) struct Answer {
+    pub(crate) verdict: Verdict,
+    pub(crate) text: String,
+    pub(crate) warning: Option<String>,
+}
+
+impl Answer {
+    /// Makes an answer without a warning.
+    fn plain(verdict: Verdict, text: String) -> Answer {
+        Answer {
+            verdict,
+            text,
+            warning: None,
+        }
+    }
+}
+
+/// Reads a plan from a file of this name, searches it or looks for an order of its locks, and makes the answer. A searched plan
+/// may get a warning.
 ///
 /// # Errors
 ///
-/// In this order: a fault of reading, a plan that is too long once it is written out, the first bad line, the first unknown
-/// party, the first party that never begins, the first call that can never be made, too many combinations, no memory or
-/// time for the search or no memory for the text, a fault of writing. If the reader does not say what it has ahead, the clauses speak only of the
-/// bytes that it gave.
-pub(crate) fn explore_plan<R: Read, W: Write, B: Budget>(
+/// In this order: a fault of reading, those of [`read_plan`] or [`read_core`], the first call that can never be made, too many
+/// combinations, no memory or time for the search or the look for an order, no memory for the text.
+pub(crate) fn explore_plan<R: Read, B: Budget>(
     alloc: Global,
-    form: AnswerForm,
+    file: &str,
+    request: Request,
     memory: usize,
     budget: &mut B,
     reader: &mut R,
-    writer: &mut W,
-    warning: &mut Option<String>,
-) -> Result<Verdict, NoAnswer>
-    ensures answered { IfOk result (λ verdict. ReadsScript (R.remaining reader.old) (R.remaining reader.new)
-        (λ script. AppendsPlanAnswer form script verdict (W.contents writer.old) (W.contents writer.new))) }
-    ensures told { IfErr result (λ no_answer. ExplainsPlanFault form memory
-        (R.remaining reader.old) (R.remaining reader.new) (W.contents writer.old) (W.contents writer.new) no_answer.fault) }
-    ensures unwritten { IfErr result (λ no_answer.
-        IsBeforePlanAnswer no_answer.fault → Keeps (W.contents writer.old) (W.contents writer.new)) }
-{
+) -> Result<Answer, NoAnswer> {
     let script = read_script(alloc, reader)?;
-    let (verdict, text) = plan_answer(alloc, form, memory, budget, script.as_slice(), warning)?;
-    match put(text.as_str(), writer) {
-        Ok(()) => Ok(verdict),
-        Err(_) => Err(NoAnswer {
-            fault: PlanTextFault::OutputFailed,
-            why: None,
-        }),
+    let script = script.as_slice();
+    match answer_of(alloc, request, memory, budget, script) {
+        Ok(answer) => Ok(answer),
+        Err(Fault::Search(why)) => Err(why),
+        Err(Fault::Text(TextFault::TooLarge)) => Err(NoAnswer::TooLarge),
+        Err(Fault::Text(TextFault::TooLong)) => Err(NoAnswer::TooLong),
+        Err(Fault::Text(TextFault::OutOfMemory)) => Err(NoAnswer::OutOfMemory),
+        Err(Fault::Text(TextFault::Lines(lines))) => {
+            let text = bad_text(alloc, file, script, lines.as_slice())?;
+            Err(NoAnswer::Lines(text))
+        }
+        Err(Fault::PlanLines(lines)) => {
+            let text = bad_text(alloc, file, &[], lines.as_slice())?;
+            Err(NoAnswer::Lines(text))
+        }
     }
 }
 
-/// Returns whether the plan of a script stops, and the text of the answer.
-///
-/// # Errors
-///
-/// `TooLong` and `OutOfMemory` of [`PlainText::of`], then those of [`plain_answer`], with the lines' numbers in the script.
-fn plan_answer<B: Budget>(
+/// Why there is no answer: by the text, or by the search.
+#[derive(Drop)]
+enum Fault {
+    Text(TextFault),
+    /// Lines of the plan of a core, which are not those of the text.
+    PlanLines(Vec<BadLine>),
+    Search(NoAnswer),
+}
+
+impl From<TextFault> for Fault {
+    fn from(fault: TextFault) -> Fault {
+        Fault::Text(fault)
+    }
+}
+
+impl From<NoAnswer> for Fault {
+    fn from(fault: NoAnswer) -> Fault {
+        Fault::Search(fault)
+    }
+}
+
+/// Makes the answer to the plan of a text.
+fn answer_of<B: Budget>(
     alloc: Global,
-    form: AnswerForm,
+    request: Request,
     memory: usize,
     budget: &mut B,
     script: &[u8],
-    warning: &mut Option<String>,
-) -> Result<(Verdict, String), NoAnswer>
-    ensures answer { IfOk result (λ answer. IsPlanAnswer form (line_number script.now) (plain_text script.now) answer.0 (string_bytes answer.1)) }
-    ensures short { IfOk result (λ _. IsShort script.now) }
-    ensures fault { IfErr result (λ no_answer. IsScriptFault script.now memory no_answer.fault) }
-{
-    let plain = match PlainText::of(alloc, script) {
-        Ok(plain) => plain,
-        Err(LinesFault::TooLong) => return Err(NoAnswer::from(PlanTextFault::TooLong)),
-        Err(LinesFault::OutOfMemory) => return Err(NoAnswer::from(PlanTextFault::OutOfMemory)),
+) -> Result<Answer, Fault> {
+    let mut core = if request.is_core {
+        read_core(alloc, script)?
+    } else {
+        read_plan(alloc, script)?
     };
-    match plain_answer(
-        alloc,
-        form,
-        memory,
-        budget,
-        plain.bytes.as_slice(),
-        &plain.lines,
-        warning,
-    ) {
-        Ok(answer) => Ok(answer),
-        Err(fault) => Err(plain.explained(alloc, fault)),
+    if request.form == Form::Core {
+        return core_answer(alloc, &core);
+    }
+    let answer = if request.form == Form::Order || core.names.has_many() {
+        order_answer(alloc, request.form, memory, budget, &core)
+    } else {
+        search_answer(alloc, request, memory, budget, &mut core)
+    };
+    match answer {
+        Err(Fault::Text(TextFault::Lines(lines))) if request.is_core => {
+            Err(Fault::PlanLines(lines))
+        }
+        answer => answer,
     }
 }
 
-/// Returns whether a plan stops, and the text of the answer, of the plan's plain text and the numbers of its lines.
-///
-/// # Errors
-///
-/// Those of [`parse_text`], then those of [`order_answer`], or else those of [`PlanText::into_plan`], `Full`, `OutOfTime` and
-/// `OutOfMemory`.
-fn plain_answer<B: Budget>(
+/// Makes the text of a plan as it is searched.
+fn core_answer(alloc: Global, core: &Core) -> Result<Answer, Fault> {
+    match core.text(alloc) {
+        Ok(text) => Ok(Answer::plain(Verdict::NeverStops, text)),
+        Err(_) => Err(Fault::Search(NoAnswer::OutOfMemory)),
+    }
+}
+
+/// Searches a plan.
+fn search_answer<B: Budget>(
     alloc: Global,
-    form: AnswerForm,
+    request: Request,
     memory: usize,
     budget: &mut B,
-    plain: &[u8],
-    lines: &LineNumbers,
-    warning: &mut Option<String>,
-) -> Result<(Verdict, String), PlanTextFault>
-    ensures answer { IfOk result (λ answer. IsPlanAnswer form (number_by lines.now) plain.now answer.0 (string_bytes answer.1)) }
-    ensures fault { IfErr result (IsPlanFault plain.now memory) }
-{
-    let plan = parse_text(alloc, plain)?;
-    if is_by_order(form, &plan) {
-        return order_answer(alloc, &plan, lines);
-    }
-    let places = places_in(alloc, form, &plan)?;
-    let mark = mark_in(form, places.as_slice(), lines);
-    let Some(left) = left_beside_holds(memory, plan.locks(), plan.programs()) else {
-        return Err(PlanTextFault::OutOfMemory);
+    core: &mut Core,
+) -> Result<Answer, Fault> {
+    let left = left_of(memory, core)?;
+    let named = core.take_plan(alloc)?;
+    let explored = match explore(alloc, &named.plan, left, budget) {
+        Ok(explored) => explored,
+        Err(fault) => return Err(Fault::Search(NoAnswer::from(fault))),
     };
-    let named = plan.into_plan(alloc)?;
-    let explored = explore(alloc, &named.plan, left, budget)?;
-    let text = answer_of(alloc, form, mark, &named, &explored, warning)?;
-    Ok((Verdict::of(&explored), text))
+    match answer_text(alloc, request.form, request.has_lines, &named, &explored) {
+        Ok(text) => Ok(Answer {
+            verdict: Verdict::of(&explored),
+            text,
+            warning: ending_warning(alloc, &named),
+        }),
+        Err(_) => Err(Fault::Search(NoAnswer::OutOfMemory)),
+    }
 }
 
-/// Returns whether an order is looked for, in place of a search.
-fn is_by_order(form: AnswerForm, plan: &PlanText) -> bool
-    ensures { result ≡ is_by_order form plan.now }
-{
-    form == AnswerForm::Order || plan.is_any_number()
+/// Returns how many bytes are left beside the holds.
+fn left_of(memory: usize, core: &Core) -> Result<usize, NoAnswer> {
+    match left_beside_holds(memory, core.locks.len(), &core.programs) {
+        Some(left) => Ok(left),
+        None => Err(NoAnswer::OutOfMemory),
+    }
 }
 
-/// Returns whether a plan has an order of the locks, or no circle of waits, and the text of the answer, with these numbers of
-/// the lines.
-///
-/// # Errors
-///
-/// `Call` with the line of the first act, party by party, that can never be made. `OutOfMemory`.
-fn order_answer(
+/// Looks for an order of the locks of a plan.
+fn order_answer<B: Budget>(
     alloc: Global,
-    plan: &PlanText,
-    lines: &LineNumbers,
-) -> Result<(Verdict, String), PlanTextFault>
-    ensures answer { IfOk result (λ answer. IsOrderAnswer (number_by lines.now) plan.now answer.0 (string_bytes answer.1)) }
-    ensures fault { IfErr result (λ fault. (draft_fault (drafted plan.now.draft) ≡ Some fault) ⊎ (fault ≡ OutOfMemory)) }
-{
-    match order_of(alloc, plan) {
-        Ok(order) => {
-            let mut text = String::new(alloc);
-            write_order(alloc, &mut text, plan, lines, &order)?;
-            Ok((Verdict::of_order(&order), text))
+    form: Form,
+    memory: usize,
+    budget: &mut B,
+    core: &Core,
+) -> Result<Answer, Fault> {
+    let left = left_of(memory, core)?;
+    let mut within = OrderBudget::new(budget, left);
+    match order_found(alloc, form, core, &mut within) {
+        Ok(answer) => Ok(answer),
+        Err(Unordered::NoMemory) => Err(Fault::Search(NoAnswer::OutOfMemory)),
+        Err(Unordered::Order(OrderFault::Plan(fault))) => {
+            Err(Fault::Text(core.fault(alloc, fault)))
         }
-        Err(fault) => Err(plan.fault_by_line(alloc, fault)),
+        Err(Unordered::Order(OrderFault::OutOfTime)) => Err(Fault::Search(within.no_answer())),
     }
 }
 
-/// Returns an order of the locks of a plan, or whether its waits make no circle, or what is in the way.
-fn order_of(alloc: Global, plan: &PlanText) -> Result<LockOrder, PlanFault>
-    ensures order { IfOk result (IsLockOrder plan.now.draft.locks.items (map (λ v. v.items) plan.now.programs.items) (are_many plan.now)) }
-    ensures wrong { IfErr result (IsFault (parties_fault plan.now.draft.locks.items 0 (map (λ v. v.items) plan.now.programs.items))) }
-{
-    let many = plan.many(alloc)?;
-    let order = find_order(alloc, plan.locks(), plan.programs(), many.as_slice())?;
-    Ok(order)
+/// Why no order was looked for to the end.
+#[derive(Drop)]
+enum Unordered {
+    NoMemory,
+    Order(OrderFault),
 }
 
-/// Returns the lines of the places, party by party, if the form needs them.
-fn places_in(
+impl From<AllocError> for Unordered {
+    fn from(_fault: AllocError) -> Unordered {
+        Unordered::NoMemory
+    }
+}
+
+impl<T: Drop> From<AllocFailed<T>> for Unordered {
+    fn from(_fault: AllocFailed<T>) -> Unordered {
+        Unordered::NoMemory
+    }
+}
+
+/// Looks for an order within a budget.
+fn order_found<B: Budget>(
     alloc: Global,
-    form: AnswerForm,
-    plan: &PlanText,
-) -> Result<Vec<Vec<u64>>, PlanTextFault>
-    ensures lines { IfOk result (λ places. form ≡ Lines → map (λ v. v.items) places.items ≡ numbers_in (drafted plan.now.draft)) }
-    ensures fault { IfErr result (λ fault. fault ≡ OutOfMemory) }
-{
-    match form {
-        AnswerForm::Lines => plan.numbers(alloc),
-        _ => Ok(Vec::new(alloc)),
+    form: Form,
+    core: &Core,
+    within: &mut B,
+) -> Result<Answer, Unordered> {
+    let programs = core.programs.all(alloc)?;
+    let mut many = Vec::new(alloc);
+    for party in 0..core.names.parties() {
+        many.push(core.names.is_many(party))?;
     }
-}
-
-/// Returns what the answer in a form has before each step and each wait.
-fn mark_in<'a>(form: AnswerForm, places: &'a [Vec<u64>], lines: &'a LineNumbers) -> LineMark<'a>
-    ensures { mark_by result ≡ mark_in form (line_mark (map (λ v. v.items) places.now) (number_by lines.now)) }
-{
-    match form {
-        AnswerForm::Lines => LineMark::Line(places, lines),
-        _ => LineMark::Nothing,
+    let locks = core.locks.as_slice();
+    let order = match find_order(alloc, locks, programs.as_slice(), many.as_slice(), within) {
+        Ok(order) => order,
+        Err(fault) => return Err(Unordered::Order(fault)),
+    };
+    let verdict = Verdict::of_order(&order);
+    let text = order_text(alloc, &core.names, &core.programs, &order)?;
+    if form == Form::Json {
+        let object = json_lines(alloc, text.as_str())?;
+        return Ok(Answer::plain(verdict, object));
     }
-}
-
-/// Returns the answer to a plan in a form, of what a search found, and perhaps makes a warning.
-fn answer_of(
-    alloc: Global,
-    form: AnswerForm,
-    mark: LineMark,
-    named: &NamedPlan,
-    explored: &Explored,
-    warning: &mut Option<String>,
-) -> Result<String, AllocError>
-    ensures { IfOk result (λ text. IsTextIn form (mark_by mark.entry) named.now explored.now.trace explored.now.visited (string_bytes text)) }
-{
-    *warning = ending_warning(alloc, named);
-    if form == AnswerForm::Svg {
-        return draw_picture(alloc, &named.plan, &named.names, explored);
-    }
-    let mut text = String::new(alloc);
-    write_answer(alloc, &mut text, &named.plan, &named.names, explored, mark)?;
-    if form == AnswerForm::Lanes {
-        write_drawing(alloc, &mut text, &named.plan, &named.names, explored)?;
-    }
-    Ok(text)
+    Ok(Answer::plain(verdict, text))
 }

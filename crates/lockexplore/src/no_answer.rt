@@ -1,45 +1,65 @@
 //! Why there is no answer.
-use lock_plan_text::PlanTextFault;
 use script_text::StreamFault;
-use std::fmt;
+use std::alloc::{AllocError, AllocFailed};
+use step_search::SearchFault;
+use thiserror::Error;
 
 /// Why there is no answer to a plan. It shows as the text that the program prints.
-#[derive(Debug, Drop)]
-pub(crate) struct NoAnswer {
-    pub(crate) fault: PlanTextFault,
-    /// What is wrong with a bad line, unless memory for this text was refused.
-    pub(crate) why: Option<String>,
+#[derive(Debug, Drop, Error)]
+pub(crate) enum NoAnswer {
+    /// The text that tells bad lines.
+    #[error("{0}")]
+    Lines(String),
+    #[error("too many states")]
+    TooLarge,
+    #[error("input too long")]
+    TooLong,
+    #[error("out of memory")]
+    OutOfMemory,
+    /// So many states were reached, which are more than the memory has room for.
+    #[error("out of memory after {0} states")]
+    Full(usize),
+    /// So many states were reached when the time for the search ended.
+    #[error("out of time after {0} states")]
+    OutOfTime(usize),
+    /// The time for a look for an order ended.
+    #[error("out of time")]
+    Late,
+    #[error("input failed")]
+    InputFailed,
+    #[error("output failed")]
+    OutputFailed,
 }
 
-impl From<PlanTextFault> for NoAnswer {
-    ghost use Rattle.std.specs.Prelude.{◌≡◌};
+impl From<AllocError> for NoAnswer {
+    fn from(_fault: AllocError) -> NoAnswer {
+        NoAnswer::OutOfMemory
+    }
+}
 
-    ghost from_gives = { λ from no_answer. no_answer.fault ≡ from };
-
-    fn from(fault: PlanTextFault) -> NoAnswer {
-        NoAnswer { fault, why: None }
+impl<T: Drop> From<AllocFailed<T>> for NoAnswer {
+    fn from(_fault: AllocFailed<T>) -> NoAnswer {
+        NoAnswer::OutOfMemory
     }
 }
 
 impl From<StreamFault> for NoAnswer {
-    ghost use Rattle.std.specs.Prelude.{◌≡◌};
-    ghost use Rattle.lock_plan_text.specs.PlanFaults.{of_stream};
-
-    ghost from_gives = { λ from no_answer. no_answer.fault ≡ of_stream from };
-
     fn from(fault: StreamFault) -> NoAnswer {
-        NoAnswer {
-            fault: PlanTextFault::from(fault),
-            why: None,
+        match fault {
+            StreamFault::TooLong => NoAnswer::TooLong,
+            StreamFault::OutOfMemory => NoAnswer::OutOfMemory,
+            StreamFault::InputFailed => NoAnswer::InputFailed,
+            StreamFault::OutputFailed => NoAnswer::OutputFailed,
         }
     }
 }
 
-impl fmt::Display for NoAnswer {
-    fn fmt<W: fmt::Write>(&self, f: &mut fmt::Formatter<W>) -> fmt::Result {
-        match (self.fault, &self.why) {
-            (PlanTextFault::BadLine(line), Some(why)) => write!(f, "line {line}: {}", why.as_str()),
-            (fault, _) => write!(f, "{fault}"),
+impl From<SearchFault> for NoAnswer {
+    fn from(fault: SearchFault) -> NoAnswer {
+        match fault {
+            SearchFault::Full(count) => NoAnswer::Full(count),
+            SearchFault::OutOfTime(count) => NoAnswer::OutOfTime(count),
+            SearchFault::OutOfMemory => NoAnswer::OutOfMemory,
         }
     }
 }

@@ -1,48 +1,65 @@
 //! The status of the program.
+use crate::no_answer::NoAnswer;
 use crate::verdict::Verdict;
 
 /// What the answers say, of which the worst one decides.
 #[derive(Clone, Copy, PartialEq, Eq, Debug)]
 pub(crate) enum Status {
     Fine,
+    /// A search has no answer in its memory or its time.
+    Unanswered,
+    /// A plan is bad, or a file is not read or written.
+    Faulty,
     /// An answer names a stop, or says that there is no order.
     Stops,
-    Faulty,
 }
 
 impl Status {
-    ghost use Rattle.std.specs.Prelude.{◌≡◌};
-    ghost use Rattle.lockexplore.specs.Statuses.{code_of, status_of, worse};
-
     /// Returns what an answer says.
-    pub(crate) fn of(verdict: Verdict) -> Status
-        ensures { result ≡ status_of verdict }
-    {
+    pub(crate) fn of(verdict: Verdict) -> Status {
         match verdict {
             Verdict::NeverStops => Status::Fine,
             Verdict::Stops | Verdict::Unordered => Status::Stops,
         }
     }
 
+    /// Returns what it says that there is no answer.
+    pub(crate) fn without_answer(why: &NoAnswer) -> Status {
+        match why {
+            NoAnswer::TooLarge
+            | NoAnswer::OutOfMemory
+            | NoAnswer::Full(_)
+            | NoAnswer::OutOfTime(_)
+            | NoAnswer::Late => Status::Unanswered,
+            _ => Status::Faulty,
+        }
+    }
+
     /// Returns the worse one of two.
-    pub(crate) fn or_worse(self, other: Status) -> Status
-        ensures { result ≡ worse self other }
-    {
-        match (self, other) {
-            (Status::Faulty, _) | (_, Status::Faulty) => Status::Faulty,
-            (Status::Stops, _) | (_, Status::Stops) => Status::Stops,
-            (Status::Fine, Status::Fine) => Status::Fine,
+    pub(crate) fn or_worse(self, other: Status) -> Status {
+        if self.rank() < other.rank() {
+            other
+        } else {
+            self
+        }
+    }
+
+    fn rank(self) -> u8 {
+        match self {
+            Status::Fine => 0,
+            Status::Unanswered => 1,
+            Status::Faulty => 2,
+            Status::Stops => 3,
         }
     }
 
     /// Returns the number that the program ends with.
-    pub(crate) fn code(self) -> u8
-        ensures { result ≡ code_of self }
-    {
+    pub(crate) fn code(self) -> u8 {
         match self {
             Status::Fine => 0,
             Status::Stops => 3,
             Status::Faulty => 1,
+            Status::Unanswered => 4,
         }
     }
 }

@@ -12,13 +12,8 @@ pub(crate) enum Verdict {
 }
 
 impl Verdict {
-    ghost use Rattle.std.specs.Prelude.{◌≡◌};
-    ghost use Rattle.lockexplore.specs.PlanAnswers.{order_verdict, verdict_of};
-
     /// Returns what a search found.
-    pub(crate) fn of(explored: &Explored) -> Verdict
-        ensures { result ≡ verdict_of explored.now.trace }
-    {
+    pub(crate) fn of(explored: &Explored) -> Verdict {
         match explored.trace {
             None => Verdict::NeverStops,
             Some(_) => Verdict::Stops,
@@ -26,9 +21,7 @@ impl Verdict {
     }
 
     /// Returns what a look for an order found.
-    pub(crate) fn of_order(order: &LockOrder) -> Verdict
-        ensures { result ≡ order_verdict order.now }
-    {
+    pub(crate) fn of_order(order: &LockOrder) -> Verdict {
         match order {
             LockOrder::Kept(_) | LockOrder::NoCircle => Verdict::NeverStops,
             LockOrder::Broken(_) => Verdict::Unordered,

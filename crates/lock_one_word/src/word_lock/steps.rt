@@ -1,6 +1,7 @@
 //! The actions of a call, made on the word. Only these functions go on with a call.
-ghost use Rattle.std.specs.Prelude.{◌≡◌, ◌+◌, ◌-◌, ◌<◌, ◌^◌, Bool, if◌then◌else◌};
-ghost use Rattle.lock_one.specs.declared.action.Action.TheVariants.{Load, Exchange, Subtract, Park, WakeOne, WakeAll, WakeNext, Spin, Yield};
+ghost use Rattle.std.specs.Prelude.{◌≡◌, ℕ, ◌+◌, ◌-◌, ◌<◌, ◌^◌, Bool, if◌then◌else◌};
+ghost use Rattle.lock_one.specs.declared.action.Action.TheVariants.{Load, Exchange, Subtract, Park, WakeOne, WakeAll, WakeNext, WakeTurn, Spin, Yield};
+ghost use Rattle.lock_one.specs.declared.action.Sleeper.{Sleeper};
 ghost use Rattle.lock_one.specs.Machine.{next_of};
 ghost use Rattle.lock_one_word.specs.Drives.{at, CanGo, GoesOn};
 
@@ -20,7 +21,7 @@ use crate::until::{Left, Until};
 use crate::word_lock::WordLock;
 pub(crate) use call_seat::CallSeat;
 pub(crate) use ended::Ended;
-use lock_one::to_stored;
+use lock_one::{Sleeper, to_stored};
 use lock_word::Down;
 pub(crate) use looked::Looked;
 pub(crate) use pending::Pending;
@@ -70,31 +71,37 @@ impl WordLock {
         pending.go_on(found);
     }
 
-    /// Sleeps while the word is this number, or until the wait is over.
+    /// Sleeps while the word is this number, or until the wait is over, or the time of a brief sleep.
+    ///
+    /// No clock tells why a sleep without a deadline ended. Where the word is still the number, no holder has released, and the
+    /// time is taken to be over.
     pub(crate) fn park<R: Wait, U: Until<R>>(
         &self,
         rt: &R,
         pending: &mut Pending,
         number: u64,
-        is_next: bool,
+        class: Sleeper,
+        is_brief: bool,
         until: &U,
     )
-        requires { pending.old.action ≡ Park number is_next }
-        ensures { (is_late : Bool) × (at pending.new ≡ next_of (if is_late then 1 else 0) pending.old.call) }
+        requires { pending.old.action ≡ Park number class is_brief }
+        ensures { (found : ℕ) × (at pending.new ≡ next_of found pending.old.call) }
     {
         let expected = (to_stored(number) % 4_294_967_296) as u32;
-        let is_late = match until.left(rt) {
-            Left::Endless => {
-                self.table.shared.park(rt, 0, expected);
-                false
-            }
-            Left::Within(left) => {
-                self.table.shared.park_timeout(rt, 0, expected, left);
-                matches!(until.left(rt), Left::Over)
-            }
-            Left::Over => true,
-        };
-        pending.go_on(u64::from(is_late));
+        match until.left(rt).at_most(is_brief) {
+            Left::Endless => self.table.shared.park(rt, 0, expected),
+            Left::Within(left) => self.table.shared.park_timeout(rt, 0, expected, left),
+            Left::Over => {}
+        }
+        let is_late = matches!(until.left(rt), Left::Over);
+        let is_over = is_brief && self.peek().word() == number;
+        pending.go_on(if is_late {
+            1
+        } else if is_over {
+            2
+        } else {
+            0
+        });
     }
 
     /// Yields in place of a sleep.
@@ -129,6 +136,15 @@ impl WordLock {
     /// Wakes all sleepers.
     pub(crate) fn wake_all(&self, pending: &mut Pending)
         requires { pending.old.action ≡ WakeAll }
+        ensures { at pending.new ≡ next_of 0 pending.old.call }
+    {
+        self.table.shared.wake_all(0);
+        pending.go_on(0);
+    }
+
+    /// Wakes the readers and the sleepers that may pass a bar, and all others too, which a table cannot tell apart.
+    pub(crate) fn wake_turn(&self, pending: &mut Pending)
+        requires { pending.old.action ≡ WakeTurn }
         ensures { at pending.new ≡ next_of 0 pending.old.call }
     {
         self.table.shared.wake_all(0);

@@ -6,10 +6,10 @@ mod call;
 mod notified;
 mod registered;
 mod slept;
-mod steps;
 
-use crate::sleepers::stage::{CallStage, CountRule};
+use crate::sleepers::rule::CountRule;
 use atomic_table::Table;
+use lock_events::Begun;
 use lock_modes::Fault;
 pub use notified::Notified;
 pub use registered::Registered;
@@ -17,26 +17,18 @@ pub use slept::Slept;
 use std::alloc::Global;
 use std::marker::Model;
 
-/// How many waits are counted.
-const COUNT: usize = 0;
-
-/// The epoch, which a notification ends.
-const EPOCH: usize = 1;
-
-/// The last epoch. No thread sleeps in it: a park compares 32 bits.
-const LAST_EPOCH: u64 = 4_294_967_295;
-
-/// The count while the epochs begin anew.
-const CLOSED_COUNT: u64 = 9_223_372_036_854_775_808;
+/// The word: a count of waits, how many of them are not claimed, and the epoch, which a notification ends.
+const WORD: usize = 0;
 
 /// An event count: threads that sleep until a notification.
 ///
 /// A thread first registers, then checks again whether it has to sleep, and then sleeps or leaves. In the other order, a
 /// notification between the check and the sleep would be lost. None is lost to a registered wait: see
-/// `every_state_wakes_the_registered`. Only the modules below this one reach its words.
+/// `every_state_wakes_the_registered`. It makes the actions of `EventCall`, and only the modules below this one reach its
+/// word.
 #[derive(Drop)]
 pub struct EventCount {
-    table: Table<(), CallStage, (), CountRule, Global>,
+    table: Table<(), Begun, (), CountRule, Global>,
 }
 
 impl Model for EventCount {
@@ -47,7 +39,7 @@ impl Model for EventCount {
 
     ghost view = { λ e. e.table.shared.table_id };
 
-    ghost invariant = { λ e. e.table.shared.table_id.words ≡ 2 };
+    ghost invariant = { λ e. e.table.shared.table_id.words ≡ 1 };
 }
 
 impl EventCount {
@@ -55,14 +47,7 @@ impl EventCount {
     pub fn new(alloc: Global) -> Result<EventCount, Fault>
         ensures { IfErr result (λ error. error ≡ fault.OutOfMemory) }
     {
-        EventCount::at_epoch(alloc, 0)
-    }
-
-    /// Makes an event count at this epoch. A test reaches the last epoch, after which the epochs begin anew.
-    pub fn at_epoch(alloc: Global, epoch: u32) -> Result<EventCount, Fault>
-        ensures { IfErr result (λ error. error ≡ fault.OutOfMemory) }
-    {
-        match Table::of_words(alloc, &[0, epoch as u64], &()) {
+        match Table::of_words(alloc, &[0], &()) {
             Ok((table, _)) => Ok(EventCount { table }),
             Err(_) => Err(Fault::OutOfMemory),
         }

@@ -2,9 +2,10 @@
 ghost use Rattle.std.specs.Prelude.{◌≡◌, true, false};
 
 use crate::sleepers::event_count::{EventCount, Notified};
+use lock_events::EventAction;
 
 impl EventCount {
-    /// Ends the epoch if a wait is counted, and wakes one thread that sleeps. One load if none is counted.
+    /// Ends the epoch if a wait is not claimed, claims one, and wakes one thread that sleeps. Otherwise one load.
     pub fn notify_one(&self) -> Notified
         ensures events { result.events ≡ self.now }
         ensures one { result.all ≡ false }
@@ -24,11 +25,19 @@ impl EventCount {
         ensures events { result.events ≡ self.now }
         ensures all { result.all ≡ all }
     {
-        let (mut call, waits) = self.begin();
-        if waits == 0 {
-            return self.found_none(call, all);
+        let mut call = self.begin_notify(all);
+        while let EventAction::Exchange(old, new) = call.action() {
+            self.exchange(&mut call, old, new);
         }
-        let owed = self.end_epoch(&mut call, waits, all);
-        self.wake(call, owed, waits, all)
+        if let EventAction::Or(bits) = call.action() {
+            self.set_bits(&mut call, bits);
+        }
+        match call.action() {
+            EventAction::End(_) => self.skip(call, all),
+            _ => {
+                let owed = call.owed();
+                self.wake(call, owed, all)
+            }
+        }
     }
 }

@@ -1,76 +1,55 @@
-//! The kinds of step on the count and the epoch, and what each tells the call that makes it.
+//! The kinds of step on the word, and what each tells the call that makes it.
 ghost use Rattle.std.specs.Prelude.{true, false};
-ghost use Rattle.lock_wake.specs.EventPlays.{Arrives, Begins, CountsIn, Registers, CountsOut, Closes, BeginsAnew, Notes, Wakes};
+ghost use Rattle.lock_wake.specs.EventPlays.{BeginsToWait, BeginsToNotify, Exchanges, SetsBits, Leaves, Wakes};
 
-use crate::sleepers::stage::CallStage;
 use atomic_table::Play;
+use lock_events::Begun;
 
-/// A load of the count by a new wait.
-pub(crate) struct Arrive;
+/// A load by a new wait.
+pub(crate) struct BeginWait;
 
-impl Play<(), CallStage> for Arrive {
-    ghost then = { λ s. Arrives };
+impl Play<(), Begun> for BeginWait {
+    ghost then = { λ s me. BeginsToWait };
 }
 
-/// A load of the count by a new notification.
-pub(crate) struct Begin;
+/// A load by a new notification of one.
+pub(crate) struct BeginOne;
 
-impl Play<(), CallStage> for Begin {
-    ghost then = { λ s. Begins };
+impl Play<(), Begun> for BeginOne {
+    ghost then = { λ s me. BeginsToNotify false };
 }
 
-/// An exchange of the count that counts the wait.
-pub(crate) struct CountIn;
+/// A load by a new notification of all.
+pub(crate) struct BeginAll;
 
-impl Play<(), CallStage> for CountIn {
-    ghost then = { CountsIn };
+impl Play<(), Begun> for BeginAll {
+    ghost then = { λ s me. BeginsToNotify true };
 }
 
-/// A load of the epoch by a counted wait.
-pub(crate) struct Register;
+/// An exchange that the call asks for.
+pub(crate) struct Exchange;
 
-impl Play<(), CallStage> for Register {
-    ghost then = { λ s. Registers };
+impl Play<(), Begun> for Exchange {
+    ghost then = { Exchanges };
 }
 
-/// A subtraction from the count that takes the wait out of it, or opens the closed count.
-pub(crate) struct CountOut;
+/// The step of a notification that begins the last epoch.
+pub(crate) struct SetBits;
 
-impl Play<(), CallStage> for CountOut {
-    ghost then = { λ s me found. CountsOut s me };
+impl Play<(), Begun> for SetBits {
+    ghost then = { SetsBits };
 }
 
-/// An exchange of a count of 0 that closes it.
-pub(crate) struct CloseCount;
+/// The subtraction that ends a registered wait.
+pub(crate) struct Leave;
 
-impl Play<(), CallStage> for CloseCount {
-    ghost then = { λ s. Closes };
+impl Play<(), Begun> for Leave {
+    ghost then = { λ s me found. Leaves s me };
 }
 
-/// A store that begins the epochs anew.
-pub(crate) struct RestartEpochs;
+/// A load by a notification that has made its wake-up.
+pub(crate) struct Woke;
 
-impl Play<(), CallStage> for RestartEpochs {
-    ghost then = { λ s me found. BeginsAnew s me };
-}
-
-/// A load of the epoch by a notification that found waits.
-pub(crate) struct NoteEpoch;
-
-impl Play<(), CallStage> for NoteEpoch {
-    ghost then = { λ s. Notes };
-}
-
-/// A load of the epoch by a notification that woke one thread.
-pub(crate) struct WakeOne;
-
-impl Play<(), CallStage> for WakeOne {
-    ghost then = { λ s me found. Wakes false me };
-}
-
-/// A load of the epoch by a notification that woke all threads.
-pub(crate) struct WakeAll;
-
-impl Play<(), CallStage> for WakeAll {
-    ghost then = { λ s me found. Wakes true me };
+impl Play<(), Begun> for Woke {
+    ghost then = { λ s me found. Wakes me };
 }

@@ -5,24 +5,26 @@ ghost use Rattle.std.specs.Time.{instant_nanos};
 use crate::deadline::time_left;
 use crate::sleepers::event_count::{EventCount, Registered, Slept};
 use crate::sleepers::registration::Registration;
+use lock_events::EventAction;
 use std::sync::Wait;
 use std::time::{Clock, Duration, Instant};
 
 impl EventCount {
     /// Registers a wait: a notification that begins from now on ends its sleep.
     ///
+    /// If the count is full, or the last epoch has yet to end, the wait does not register: its sleep yields.
+    ///
     /// # Blocking
-    /// It repeats an exchange that other threads disturbed, and yields while the epochs begin anew.
+    /// It repeats an exchange that other threads disturbed.
     pub fn register<R: Wait>(&self, rt: &R) -> Registered
         ensures { result.events ≡ self.now }
     {
-        let (mut call, mut count) = self.arrive();
+        let mut call = self.begin_wait();
         for _ in rt.forever() {
-            let found = self.count_in(&mut call, count);
-            if found == count {
-                return self.watch(call);
+            match call.action() {
+                EventAction::Exchange(old, new) => self.exchange(&mut call, old, new),
+                _ => return self.watch(call),
             }
-            count = found;
         }
         unreachable!()
     }

@@ -1,4 +1,4 @@
-//! Threads sleep on an event count, and its epochs begin anew after the last.
+//! Threads sleep on an event count until a notification.
 use lock_test_support::answer::equal;
 use lock_wake::EventCount;
 use std::sync::Wait;
@@ -14,20 +14,19 @@ fn sleeps_out<R: Wait + Clock>(rt: &R, events: &EventCount) -> Result<bool, Fail
     Ok(matches!(start.elapsed(rt), Ok(slept) if slept >= time))
 }
 
-/// Whether the second wait lasts, how many waiters a notification of one finds while one is registered, and how many one
-/// of all finds after that.
-fn seen<R: Wait + Clock>(rt: &R, events: &EventCount) -> Result<(bool, u64, u64), Fail> {
-    let registered = events.register(rt);
-    events.sleep(rt, registered);
+/// Whether a wait lasts that nobody notifies, how many waiters two notifications of one find while one is registered, and how
+/// many one of all finds after that. The first one claims the wait, so the second one wakes nobody.
+fn seen<R: Wait + Clock>(rt: &R, events: &EventCount) -> Result<(bool, u64, u64, u64), Fail> {
     let lasts = sleeps_out(rt, events)?;
     let registered = events.register(rt);
     let one = events.notify_one().waiters();
+    let claimed = events.notify_one().waiters();
     events.sleep(rt, registered);
-    Ok((lasts, one, events.notify_all().waiters()))
+    Ok((lasts, one, claimed, events.notify_all().waiters()))
 }
 
 #[test]
-fn epochs_begin_anew_after_the_last(rt: HostRuntime) -> Result<(), Fail> {
-    let events = EventCount::at_epoch(rt.alloc(), u32::MAX)?;
-    equal(seen(&rt, &events)?, (true, 1, 0))
+fn a_notification_ends_a_sleep(rt: HostRuntime) -> Result<(), Fail> {
+    let events = EventCount::new(rt.alloc())?;
+    equal(seen(&rt, &events)?, (true, 1, 1, 0))
 }

@@ -1,8 +1,8 @@
 // SPDX-License-Identifier: MIT OR Apache-2.0
 //! The condition variable.
-use crate::driver::{rest_of_notify, wait, Mode, Release, Timespec};
+use crate::driver::{has_none, rest_of_notify, wait, waits_of, Mode, Release, Timespec};
 use crate::mutex::MutexGuard;
-use crate::word::Word;
+use crate::word::EventWord;
 use core::fmt;
 use core::sync::atomic::Ordering::SeqCst;
 #[cfg(feature = "std")]
@@ -14,6 +14,7 @@ pub struct WaitTimeoutResult(bool);
 
 impl WaitTimeoutResult {
     /// Returns whether the time was over.
+    #[must_use]
     #[inline]
     pub fn timed_out(self) -> bool {
         self.0
@@ -40,13 +41,14 @@ impl WaitTimeoutResult {
 ///     }
 /// });
 /// ```
-pub struct Condvar([Word; 2]);
+pub struct Condvar(EventWord);
 
 impl Condvar {
     /// Makes a condition variable.
+    #[must_use]
     #[inline]
     pub const fn new() -> Condvar {
-        Condvar([Word::new(0), Word::new(0)])
+        Condvar(EventWord::new(0))
     }
 
     /// Wakes one thread that waits. Returns whether some waited.
@@ -81,12 +83,13 @@ impl Condvar {
         WaitTimeoutResult(!wait(&self.0, unlock, || mutex.acquire(Mode::Exclusive), deadline))
     }
 
-    /// Makes the first step of a notification inline, as the locks do.
+    /// Makes the first step of a notification inline, as the locks do. One of one has nobody to wake if all are claimed.
     #[inline]
     fn notify(&self, all: bool) -> u32 {
-        match self.0[0].load(SeqCst) {
-            0 => 0,
-            count => rest_of_notify(&self.0, all, count),
+        let word = self.0.load(SeqCst);
+        match has_none(word, all) {
+            true => waits_of(word),
+            false => rest_of_notify(&self.0, all, word),
         }
     }
 }
@@ -152,24 +155,69 @@ impl fmt::Debug for Condvar {
     }
 }
 
+/// Waits and notifications are those of the archive: the answers, the accesses and the words that they leave.
 #[cfg(test)]
 mod tests {
+    extern crate std;
     use super::*;
-    use crate::driver::{lock_c_next_event, lock_c_notify, Code, LockEvent};
+    use crate::driver::{lock_c_next_event, lock_c_notify, lock_c_wait, Code, LockEvent, PASSED};
+    use crate::expected::{run, Numbers};
+    use crate::mutex::Mutex;
+    use crate::word::record;
 
-    /// A notification of a condition variable with this count loads it first, and ends if it is 0.
+    /// The deadline has passed, so each sleep ends at once.
+    fn compare_wait(others: &[u64]) {
+        let (it, mutex) = (Condvar::new(), Mutex::new(()));
+        let mut guard = mutex.lock();
+        let (answer, accesses) = record(&it.0, others, || it.wait_to(&mut guard, Some(&PASSED)).timed_out());
+        core::mem::forget(guard); // a wait that is cut may have released the mutex
+        let mut call = LockEvent::default();
+        let step = lock_c_wait(&mut call);
+        let (end, expected, word) = run(others, true, step, |found| lock_c_next_event(&mut call, found));
+        let found = (answer, accesses, it.0.load(SeqCst));
+        assert_eq!(found, (end.map(|it| it == Code::Refused), expected, word), "{others:x?}");
+    }
+
+    fn compare_notification(others: &[u64], all: bool) {
+        let it = Condvar::new();
+        let (answer, accesses) = record(&it.0, others, || it.notify(all));
+        let mut call = LockEvent::default();
+        let step = lock_c_notify(&mut call, all.into());
+        let (end, expected, word) = run(others, false, step, |found| lock_c_next_event(&mut call, found));
+        let found = (answer.map(u64::from), accesses, it.0.load(SeqCst));
+        assert_eq!(found, (end.map(|_| call.loaded >> 40), expected, word), "{others:x?}, all: {all}");
+    }
+
+    fn compare_notifications(others: &[u64]) {
+        [true, false].into_iter().for_each(|all| compare_notification(others, all));
+    }
+
+    /// Each number of a word is small, or about its greatest one.
     #[test]
-    fn inline_step_is_that_of_the_archive() {
-        let counts = (0..32).flat_map(|i| (0..32).map(move |j| 1u32 << i | 1 << j)).chain([0, u32::MAX, (1 << 31) - 1]);
-        for count in counts {
-            for all in [0, 1] {
-                let mut call = LockEvent::default();
-                let step = lock_c_notify(&mut call, all);
-                assert_eq!((step.action, step.place), (Code::Load, 0));
-                assert_eq!(lock_c_next_event(&mut call, count).action == Code::Refused, count == 0);
-                assert_eq!(call.loaded, count % (1 << 31));
-            }
+    fn calls_are_those_of_the_archive() {
+        let of_waits = |waits: u64| [0, 1, 2, 254, 255].map(|unclaimed: u64| waits << 40 | unclaimed << 32);
+        let in_epochs = |word: u64| [0, 1, u32::MAX - 2, u32::MAX - 1, u32::MAX].map(|epoch| word | u64::from(epoch));
+        let listed = [0, 1, 2, 254, 255, 256, 0xff_fffe, 0xff_ffff].into_iter().flat_map(of_waits).flat_map(in_epochs);
+        let mut numbers = Numbers::new(listed);
+        numbers.each(true, 20_000, compare_wait);
+        numbers.each(true, 20_000, compare_notifications);
+    }
+
+    /// A notification may end inline, by what one word says.
+    #[test]
+    fn notifications_are_those_of_the_archive_on_any_two_bits() {
+        for high in 0..64 {
+            (0..=high).for_each(|low| compare_notifications(&[1 << high | 1 << low]));
         }
-        assert!(!Condvar::new().notify_one());
+    }
+
+    /// A notification that has lost a thousand exchanges makes another step.
+    #[test]
+    fn calls_that_lose_are_those_of_the_archive() {
+        let epochs: std::vec::Vec<u64> = (0..1064).map(|epoch| 3 << 40 | 2 << 32 | epoch).collect();
+        for lost in 998..epochs.len() {
+            compare_wait(&epochs[..lost]);
+            compare_notifications(&epochs[..lost]);
+        }
     }
 }

@@ -1,20 +1,21 @@
 // SPDX-License-Identifier: MIT OR Apache-2.0
 //! The first steps of uncontended calls, inline. The tests compare them with the archive.
-use crate::driver::{rest_of_acquire, rest_of_release, Mode, Release};
+use crate::driver::{rest_of_acquire, rest_of_release, rest_of_try, Mode, Release};
 use crate::word::Word;
 use core::sync::atomic::Ordering::SeqCst;
 #[cfg(feature = "std")]
 use {crate::driver::Timespec, std::time::Instant};
 
-// The four low bits of a word are flags. The number of readers follows, and an upgradable hold counts as one.
+// The five low bits of a word are flags. The number of readers follows, and an upgradable hold counts as one.
 const UPGRADABLE: u32 = 1;
-const EXCLUSIVE: u32 = 2;
+pub(crate) const EXCLUSIVE: u32 = 2;
 const BAR: u32 = 4;
-const SLEEPERS: u32 = 8;
-const ONE_READER: u32 = 16;
+const TURN: u32 = 8;
+const SLEEPERS: u32 = 16;
+const ONE_READER: u32 = 32;
 const ONE_UPGRADABLE: u32 = ONE_READER + UPGRADABLE;
 
-/// The greatest limit of readers: a word has 28 bits for them.
+/// The greatest limit of readers: a word has 27 bits for them.
 pub(crate) const MAX_READERS: u32 = u32::MAX / ONE_READER;
 
 impl Mode {
@@ -22,10 +23,10 @@ impl Mode {
     #[inline]
     fn is_admitted(self, word: u32, readers: u32) -> bool {
         match self {
-            Mode::Shared => word & (EXCLUSIVE | BAR) == 0 && word / ONE_READER < readers,
+            Mode::Shared => word & (EXCLUSIVE | BAR | TURN) == 0 && word / ONE_READER < readers,
             Mode::Exclusive => word & !SLEEPERS == 0,
-            Mode::Upgradable => word & (UPGRADABLE | EXCLUSIVE | BAR) == 0 && word / ONE_READER < readers,
-            Mode::Upgrade => word & !(SLEEPERS | BAR) == ONE_UPGRADABLE,
+            Mode::Upgradable => word & (UPGRADABLE | EXCLUSIVE | BAR | TURN) == 0 && word / ONE_READER < readers,
+            Mode::Upgrade => word & !(SLEEPERS | TURN | BAR) == ONE_UPGRADABLE,
         }
     }
 
@@ -87,7 +88,10 @@ impl<const READERS: u32> Lock<READERS> {
     /// Acquires, unless a word refuses. The caller of an upgrade holds the lock upgradable.
     #[inline]
     pub(crate) fn try_acquire(&self, mode: Mode) -> bool {
-        self.first(mode).is_ok()
+        match self.first(mode) {
+            Ok(()) => true,
+            Err(word) => mode == Mode::Shared && word & TURN != 0 && rest_of_try(&self.0, READERS, word),
+        }
     }
 
     #[inline]
@@ -114,7 +118,8 @@ impl<const READERS: u32> Lock<READERS> {
     #[inline]
     pub(crate) unsafe fn release(&self, release: Release) {
         if READERS != 1 && matches!(release, Release::Shared) {
-            return self.remove_reader();
+            // SAFETY: the caller has such a hold.
+            return unsafe { self.remove_reader() };
         }
         let (held, left) = release.of_lone_holder();
         if let Err(found) = self.0.compare_exchange(held, left, SeqCst, SeqCst) {
@@ -140,7 +145,7 @@ impl<const READERS: u32> Lock<READERS> {
     }
 
     pub(crate) fn is_locked(&self) -> bool {
-        self.0.load(SeqCst) & !(BAR | SLEEPERS) != 0
+        self.0.load(SeqCst) & !(BAR | TURN | SLEEPERS) != 0
     }
 
     /// Whether nobody holds the lock or has set the bar. The bit of sleepers may be left.
@@ -154,14 +159,14 @@ impl<const READERS: u32> Lock<READERS> {
     }
 }
 
-/// The inline steps, and the driver's after them, are the accesses that the archive asks for from the first one on.
+/// The inline steps, and the driver's after them, are those that the archive asks for from the first one on.
 #[cfg(test)]
 mod tests {
     extern crate std;
     use super::*;
-    use crate::driver::{drive, lock_c_acquire, lock_c_release, Code, LockCall, LockStep, PASSED};
+    use crate::driver::{lock_c_acquire, lock_c_next, lock_c_release, Code, LockCall, LockStep, PASSED};
+    use crate::expected::{run, Numbers};
     use crate::word::record;
-    use std::vec::Vec;
 
     const MODES: [Mode; 4] = [Mode::Shared, Mode::Exclusive, Mode::Upgradable, Mode::Upgrade];
     const RELEASES: [Release; 6] = [
@@ -175,91 +180,70 @@ mod tests {
 
     /// Compares an inline call with the archive's: the answers, the accesses and the words that they leave.
     fn compare<const READERS: u32>(
-        words: &[u32],
+        others: &[u64],
         inline: impl FnOnce(&Lock<READERS>) -> bool,
         begin: impl FnOnce(&mut LockCall) -> LockStep,
-        made: &[u32],
     ) {
-        let (lock, word, mut call) = (Lock::<READERS>(Word::new(0)), Word::new(0), LockCall::default());
-        let found = record(words, || inline(&lock));
+        let (lock, mut call) = (Lock::<READERS>(Word::new(0)), LockCall::default());
+        let (answer, accesses) = record(&lock.0, others, || inline(&lock));
         let step = begin(&mut call);
-        let expected = record(words, || drive(&word, &mut call, step, made, Some(&PASSED)));
-        assert_eq!((&found, lock.0.load(SeqCst)), (&expected, word.load(SeqCst)), "{words:x?} for {READERS}");
+        let (end, expected, word) = run(others, true, step, |found| lock_c_next(&mut call, found as u32));
+        let found = (answer, accesses, lock.0.load(SeqCst).into());
+        assert_eq!(found, (end.map(|it| it == Code::Done), expected, word), "{others:x?} for {READERS}");
     }
 
-    /// The answer of the load that a mode leaves out: the exchange that follows finds the word.
-    fn made(mode: Mode) -> &'static [u32] {
+    /// Begins an acquisition after the load that a mode leaves out: the exchange that follows finds the word.
+    fn begin(call: &mut LockCall, readers: u32, mode: Mode, blocks: bool) -> LockStep {
+        let announces = blocks && mode == Mode::Exclusive;
+        let step = lock_c_acquire(call, readers, mode as u32, blocks.into(), announces.into());
         match mode {
-            Mode::Exclusive => &[0],
-            Mode::Upgrade => &[ONE_UPGRADABLE],
-            Mode::Shared | Mode::Upgradable => &[],
+            Mode::Exclusive => lock_c_next(call, 0),
+            Mode::Upgrade => lock_c_next(call, ONE_UPGRADABLE),
+            Mode::Shared | Mode::Upgradable => step,
         }
     }
 
-    fn compare_tries<const READERS: u32>(words: &[u32]) {
+    fn compare_tries<const READERS: u32>(others: &[u64]) {
         for mode in MODES {
-            let begin = |call: &mut LockCall| lock_c_acquire(call, READERS, mode as u32, 0, 0);
-            compare::<READERS>(words, |lock| lock.try_acquire(mode), begin, made(mode));
+            compare::<READERS>(others, |lock| lock.try_acquire(mode), |call| begin(call, READERS, mode, false));
         }
     }
 
     /// Compares calls that block: the deadline has passed, so each sleep ends at once.
-    fn compare_waits<const READERS: u32>(words: &[u32]) {
+    fn compare_waits<const READERS: u32>(others: &[u64]) {
         for mode in MODES {
-            let begin = |call: &mut LockCall| lock_c_acquire(call, READERS, mode as u32, 1, (mode == Mode::Exclusive).into());
             let wait = |lock: &Lock<READERS>| match lock.first(mode) {
                 Ok(()) => true,
                 Err(word) => rest_of_acquire(&lock.0, READERS, mode, word, Some(&PASSED)),
             };
-            compare::<READERS>(words, wait, begin, made(mode));
+            compare::<READERS>(others, wait, |call| begin(call, READERS, mode, true));
         }
     }
 
-    fn compare_releases<const READERS: u32>(words: &[u32]) {
+    fn compare_releases<const READERS: u32>(others: &[u64]) {
         for release in RELEASES {
             let inline = |lock: &Lock<READERS>| {
                 // SAFETY: no other thread uses the lock, and no value depends on it.
                 unsafe { lock.release(release) };
                 true
             };
-            compare::<READERS>(words, inline, |call| lock_c_release(call, READERS, release as u32), &[]);
+            compare::<READERS>(others, inline, |call| lock_c_release(call, READERS, release as u32));
         }
     }
 
     /// Words with all flags, and numbers of readers about 0, 1 and the limit.
-    fn words_for(readers: u32) -> Vec<u32> {
+    fn words_for(readers: u32) -> Numbers {
         let counts = (0..4).chain(readers.saturating_sub(2)..=readers.saturating_add(1).min(MAX_READERS)).chain([MAX_READERS]);
-        counts.flat_map(|count| (0..16).map(move |flags| count * ONE_READER + flags)).collect()
+        Numbers::new(counts.flat_map(|count| (0..ONE_READER).map(move |flags| u64::from(count * ONE_READER + flags))))
     }
 
     fn compare_all<const READERS: u32>() {
-        let words = words_for(READERS);
-        for &word in &words {
-            compare_waits::<READERS>(&[word]);
-            for &next in &words {
-                compare_tries::<READERS>(&[word, next]);
-                compare_releases::<READERS>(&[word, next]);
-            }
-        }
-        let mut x = 88_172_645_463_325_252u64;
-        let mut any = || {
-            x ^= x << 13;
-            x ^= x >> 7;
-            x ^= x << 17;
-            if x % 4 == 0 {
-                (x >> 32) as u32
-            } else {
-                words[(x >> 32) as usize % words.len()]
-            }
-        };
-        for _ in 0..50_000 {
-            let words = [any(), any(), any(), any()];
-            compare_tries::<READERS>(&words);
-            compare_releases::<READERS>(&words);
-        }
-        for _ in 0..500 {
-            compare_waits::<READERS>(&[(); 12].map(|()| any()));
-        }
+        let mut words = words_for(READERS);
+        words.each(true, 20_000, |others| {
+            compare_tries::<READERS>(others);
+            compare_releases::<READERS>(others);
+        });
+        words.each(false, 500, compare_waits::<READERS>);
     }
 
     #[test]
@@ -274,13 +258,60 @@ mod tests {
     #[test]
     fn the_last_access_is_the_change() {
         let lock = Lock::<2>::new();
-        let reader = |word| (Code::Exchange, word, word + ONE_READER);
-        let (is_held, accesses) = record(&[0, SLEEPERS, ONE_READER, 0, 0], || lock.try_acquire(Mode::Shared));
-        assert!(is_held && accesses == [(Code::Load, 0, 0), reader(0), reader(SLEEPERS), reader(ONE_READER), reader(0)]);
-        let (is_held, accesses) = record(&[0, BAR + SLEEPERS], || lock.try_acquire(Mode::Shared));
-        assert!(!is_held && accesses == [(Code::Load, 0, 0), reader(0)]);
+        let exchange = |old: u32, new: u32| (0, Code::Exchange, old.into(), new.into());
+        let reader = |word| exchange(word, word + ONE_READER);
+        let (is_held, accesses) =
+            record(&lock.0, &[0, SLEEPERS, ONE_READER, 0, 0].map(u64::from), || lock.try_acquire(Mode::Shared));
+        assert!(
+            is_held == Some(true)
+                && accesses == [(0, Code::Load, 0, 0), reader(0), reader(SLEEPERS), reader(ONE_READER), reader(0)]
+        );
+        let (is_held, accesses) = record(&lock.0, &[0, BAR + SLEEPERS].map(u64::from), || lock.try_acquire(Mode::Shared));
+        assert!(is_held == Some(false) && accesses == [(0, Code::Load, 0, 0), reader(0)]);
         // SAFETY: the word is that of such a hold.
-        let ((), accesses) = record(&[EXCLUSIVE + SLEEPERS; 2], || unsafe { lock.release(Release::Exclusive) });
-        assert_eq!(accesses, [(Code::Exchange, EXCLUSIVE, 0), (Code::Exchange, EXCLUSIVE + SLEEPERS, 0)]);
+        let (_, accesses) =
+            record(&lock.0, &[u64::from(EXCLUSIVE + SLEEPERS); 2], || unsafe { lock.release(Release::Exclusive) });
+        assert_eq!(accesses, [exchange(EXCLUSIVE, 0), exchange(EXCLUSIVE + SLEEPERS, 0), (0, Code::WakeAll, 0, 0)]);
+    }
+
+    /// A reader that nobody wakes takes a turn, and takes it back at its deadline.
+    #[cfg(feature = "std")]
+    #[test]
+    fn a_reader_gets_a_turn() {
+        use std::{thread, time::Duration};
+        for deadline in [None, Some(Instant::now() + Duration::from_millis(100))] {
+            let lock = Lock::<2>::new();
+            assert!(lock.try_acquire(Mode::Exclusive));
+            thread::scope(|s| {
+                let reader = s.spawn(|| lock.acquire_until(Mode::Shared, deadline));
+                while !reader.is_finished() && lock.0.load(SeqCst) & TURN == 0 {
+                    thread::sleep(Duration::from_micros(20));
+                }
+                if deadline.is_none() {
+                    assert_ne!(lock.0.load(SeqCst) & TURN, 0);
+                    // SAFETY: the word is that of such a hold.
+                    unsafe { lock.release(Release::Exclusive) };
+                }
+                assert_eq!(reader.join().expect("no panic"), deadline.is_none());
+            });
+            assert_eq!(lock.0.load(SeqCst) & !SLEEPERS, if deadline.is_none() { ONE_READER } else { EXCLUSIVE });
+        }
+    }
+
+    /// A query is one load.
+    #[test]
+    fn queries_look_once() {
+        let lock = Lock::<2>::new();
+        let load = std::vec![(0, Code::Load, 0, 0)];
+        for (word, is_locked, is_exclusive) in [
+            (BAR + TURN + SLEEPERS, false, false),
+            (ONE_READER, true, false),
+            (ONE_UPGRADABLE, true, false),
+            (EXCLUSIVE, true, true),
+        ] {
+            let found =
+                [Lock::is_locked, Lock::is_locked_exclusive].map(|query| record(&lock.0, &[word.into()], || query(&lock)));
+            assert_eq!(found, [is_locked, is_exclusive].map(|it| (Some(it), load.clone())), "{word:x}");
+        }
     }
 }

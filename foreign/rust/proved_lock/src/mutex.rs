@@ -63,6 +63,7 @@ pub type MappedMutexGuard<'a, T> = lock_api::MappedMutexGuard<'a, RawMutex, T>;
 pub type ArcMutexGuard<T> = lock_api::ArcMutexGuard<RawMutex, T>;
 
 /// Makes a mutex in a constant or a static.
+#[must_use]
 pub const fn const_mutex<T>(value: T) -> Mutex<T> {
     Mutex::const_new(<RawMutex as lock_api::RawMutex>::INIT, value)
 }
@@ -85,7 +86,8 @@ unsafe impl lock_api::RawMutex for RawMutex {
 
     #[inline]
     unsafe fn unlock(&self) {
-        self.0.release(Release::Exclusive);
+        // SAFETY: the caller holds what it releases.
+        unsafe { self.0.release(Release::Exclusive) }
     }
 
     #[inline]
@@ -96,8 +98,10 @@ unsafe impl lock_api::RawMutex for RawMutex {
 
 // SAFETY: a fair release is a plain one.
 unsafe impl lock_api::RawMutexFair for RawMutex {
+    #[inline]
     unsafe fn unlock_fair(&self) {
-        self.0.release(Release::Exclusive);
+        // SAFETY: the caller holds what it releases.
+        unsafe { self.0.release(Release::Exclusive) }
     }
 }
 
@@ -107,10 +111,12 @@ unsafe impl lock_api::RawMutexTimed for RawMutex {
     type Duration = Duration;
     type Instant = Instant;
 
+    #[inline]
     fn try_lock_for(&self, timeout: Duration) -> bool {
         self.0.acquire_until(Mode::Exclusive, Instant::now().checked_add(timeout))
     }
 
+    #[inline]
     fn try_lock_until(&self, deadline: Instant) -> bool {
         self.0.acquire_until(Mode::Exclusive, Some(deadline))
     }

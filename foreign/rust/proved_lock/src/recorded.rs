@@ -153,6 +153,7 @@ unsafe impl<R: RawMutex> RawMutex for Recorded<R> {
 
     #[inline(always)]
     unsafe fn unlock(&self) {
+        // SAFETY: the caller's promise is that of the call below.
         self.gives(&RELEASE, MUTEX, |it| unsafe { it.unlock() });
     }
 
@@ -166,11 +167,13 @@ unsafe impl<R: RawMutex> RawMutex for Recorded<R> {
 unsafe impl<R: RawMutexFair> RawMutexFair for Recorded<R> {
     #[inline(always)]
     unsafe fn unlock_fair(&self) {
+        // SAFETY: the caller's promise is that of the call below.
         self.gives(&RELEASE, MUTEX, |it| unsafe { it.unlock_fair() });
     }
 
     #[inline(always)]
     unsafe fn bump(&self) {
+        // SAFETY: the caller's promise is that of the call below.
         self.bumps(MUTEX, |it| unsafe { it.bump() });
     }
 }
@@ -209,6 +212,7 @@ unsafe impl<R: RawRwLock> RawRwLock for Recorded<R> {
 
     #[inline(always)]
     unsafe fn unlock_shared(&self) {
+        // SAFETY: the caller's promise is that of the call below.
         self.gives(&RELEASE, SHARED, |it| unsafe { it.unlock_shared() });
     }
 
@@ -224,6 +228,7 @@ unsafe impl<R: RawRwLock> RawRwLock for Recorded<R> {
 
     #[inline(always)]
     unsafe fn unlock_exclusive(&self) {
+        // SAFETY: the caller's promise is that of the call below.
         self.gives(&RELEASE, EXCLUSIVE, |it| unsafe { it.unlock_exclusive() });
     }
 
@@ -242,21 +247,25 @@ unsafe impl<R: RawRwLock> RawRwLock for Recorded<R> {
 unsafe impl<R: RawRwLockFair> RawRwLockFair for Recorded<R> {
     #[inline(always)]
     unsafe fn unlock_shared_fair(&self) {
+        // SAFETY: the caller's promise is that of the call below.
         self.gives(&RELEASE, SHARED, |it| unsafe { it.unlock_shared_fair() });
     }
 
     #[inline(always)]
     unsafe fn unlock_exclusive_fair(&self) {
+        // SAFETY: the caller's promise is that of the call below.
         self.gives(&RELEASE, EXCLUSIVE, |it| unsafe { it.unlock_exclusive_fair() });
     }
 
     #[inline(always)]
     unsafe fn bump_shared(&self) {
+        // SAFETY: the caller's promise is that of the call below.
         self.bumps(SHARED, |it| unsafe { it.bump_shared() });
     }
 
     #[inline(always)]
     unsafe fn bump_exclusive(&self) {
+        // SAFETY: the caller's promise is that of the call below.
         self.bumps(EXCLUSIVE, |it| unsafe { it.bump_exclusive() });
     }
 }
@@ -317,6 +326,7 @@ unsafe impl<R: RawRwLockRecursiveTimed> RawRwLockRecursiveTimed for Recorded<R> 
 unsafe impl<R: RawRwLockDowngrade> RawRwLockDowngrade for Recorded<R> {
     #[inline(always)]
     unsafe fn downgrade(&self) {
+        // SAFETY: the caller's promise is that of the call below.
         self.gives(&CHANGE, SHARED, |it| unsafe { it.downgrade() });
     }
 }
@@ -335,16 +345,19 @@ unsafe impl<R: RawRwLockUpgrade> RawRwLockUpgrade for Recorded<R> {
 
     #[inline(always)]
     unsafe fn unlock_upgradable(&self) {
+        // SAFETY: the caller's promise is that of the call below.
         self.gives(&RELEASE, UPGRADABLE, |it| unsafe { it.unlock_upgradable() });
     }
 
     #[inline(always)]
     unsafe fn upgrade(&self) {
+        // SAFETY: the caller's promise is that of the call below.
         self.waits(UPGRADE, |it| unsafe { it.upgrade() });
     }
 
     #[inline(always)]
     unsafe fn try_upgrade(&self) -> bool {
+        // SAFETY: the caller's promise is that of the call below.
         self.tries(UPGRADE, |it| unsafe { it.try_upgrade() })
     }
 }
@@ -353,11 +366,13 @@ unsafe impl<R: RawRwLockUpgrade> RawRwLockUpgrade for Recorded<R> {
 unsafe impl<R: RawRwLockUpgradeFair> RawRwLockUpgradeFair for Recorded<R> {
     #[inline(always)]
     unsafe fn unlock_upgradable_fair(&self) {
+        // SAFETY: the caller's promise is that of the call below.
         self.gives(&RELEASE, UPGRADABLE, |it| unsafe { it.unlock_upgradable_fair() });
     }
 
     #[inline(always)]
     unsafe fn bump_upgradable(&self) {
+        // SAFETY: the caller's promise is that of the call below.
         self.bumps(UPGRADABLE, |it| unsafe { it.bump_upgradable() });
     }
 }
@@ -366,11 +381,13 @@ unsafe impl<R: RawRwLockUpgradeFair> RawRwLockUpgradeFair for Recorded<R> {
 unsafe impl<R: RawRwLockUpgradeDowngrade> RawRwLockUpgradeDowngrade for Recorded<R> {
     #[inline(always)]
     unsafe fn downgrade_upgradable(&self) {
+        // SAFETY: the caller's promise is that of the call below.
         self.gives(&CHANGE, SHARED, |it| unsafe { it.downgrade_upgradable() });
     }
 
     #[inline(always)]
     unsafe fn downgrade_to_upgradable(&self) {
+        // SAFETY: the caller's promise is that of the call below.
         self.gives(&CHANGE, UPGRADABLE, |it| unsafe { it.downgrade_to_upgradable() });
     }
 }
@@ -389,11 +406,13 @@ unsafe impl<R: RawRwLockUpgradeTimed> RawRwLockUpgradeTimed for Recorded<R> {
 
     #[inline(always)]
     unsafe fn try_upgrade_for(&self, timeout: Self::Duration) -> bool {
+        // SAFETY: the caller's promise is that of the call below.
         self.tries(UPGRADE, |it| unsafe { it.try_upgrade_for(timeout) })
     }
 
     #[inline(always)]
     unsafe fn try_upgrade_until(&self, deadline: Self::Instant) -> bool {
+        // SAFETY: the caller's promise is that of the call below.
         self.tries(UPGRADE, |it| unsafe { it.try_upgrade_until(deadline) })
     }
 }

@@ -67,6 +67,7 @@ pub type MappedReentrantMutexGuard<'a, T> = lock_api::MappedReentrantMutexGuard<
 pub type ArcReentrantMutexGuard<T> = lock_api::ArcReentrantMutexGuard<RawMutex, RawThreadId, T>;
 
 /// Makes a reentrant mutex in a constant or a static.
+#[must_use]
 pub const fn const_reentrant_mutex<T>(value: T) -> ReentrantMutex<T> {
     ReentrantMutex::const_new(<RawMutex as lock_api::RawMutex>::INIT, <RawThreadId as lock_api::GetThreadId>::INIT, value)
 }

@@ -5,7 +5,7 @@ use crate::first::{Lock, MAX_READERS};
 #[cfg(feature = "std")]
 use std::time::{Duration, Instant};
 
-/// The raw reader-writer lock, for [`lock_api::RwLock`]. It has 4 bytes, and admits at most 2^28 - 1 readers at a time.
+/// The raw reader-writer lock, for [`lock_api::RwLock`]. It has 4 bytes, and admits at most 2^27 - 1 readers at a time.
 #[derive(Debug)]
 pub struct RawRwLock(Lock<MAX_READERS>);
 
@@ -133,6 +133,7 @@ pub type ArcRwLockWriteGuard<T> = lock_api::ArcRwLockWriteGuard<RawRwLock, T>;
 pub type ArcRwLockUpgradableReadGuard<T> = lock_api::ArcRwLockUpgradableReadGuard<RawRwLock, T>;
 
 /// Makes a reader-writer lock in a constant or a static.
+#[must_use]
 pub const fn const_rwlock<T>(value: T) -> RwLock<T> {
     RwLock::const_new(<RawRwLock as lock_api::RawRwLock>::INIT, value)
 }
@@ -155,7 +156,8 @@ unsafe impl lock_api::RawRwLock for RawRwLock {
 
     #[inline]
     unsafe fn unlock_shared(&self) {
-        self.0.release(Release::Shared);
+        // SAFETY: the caller holds what it releases.
+        unsafe { self.0.release(Release::Shared) }
     }
 
     #[inline]
@@ -170,7 +172,8 @@ unsafe impl lock_api::RawRwLock for RawRwLock {
 
     #[inline]
     unsafe fn unlock_exclusive(&self) {
-        self.0.release(Release::Exclusive);
+        // SAFETY: the caller holds what it releases.
+        unsafe { self.0.release(Release::Exclusive) }
     }
 
     #[inline]
@@ -186,40 +189,52 @@ unsafe impl lock_api::RawRwLock for RawRwLock {
 
 // SAFETY: a fair release is a plain one.
 unsafe impl lock_api::RawRwLockFair for RawRwLock {
+    #[inline]
     unsafe fn unlock_shared_fair(&self) {
-        self.0.release(Release::Shared);
+        // SAFETY: the caller holds what it releases.
+        unsafe { self.0.release(Release::Shared) }
     }
 
+    #[inline]
     unsafe fn unlock_exclusive_fair(&self) {
-        self.0.release(Release::Exclusive);
+        // SAFETY: the caller holds what it releases.
+        unsafe { self.0.release(Release::Exclusive) }
     }
 }
 
 // SAFETY: a downgrade is one exchange of the proved machine.
 unsafe impl lock_api::RawRwLockDowngrade for RawRwLock {
+    #[inline]
     unsafe fn downgrade(&self) {
-        self.0.release(Release::ToShared);
+        // SAFETY: the caller holds what it releases.
+        unsafe { self.0.release(Release::ToShared) }
     }
 }
 
 // SAFETY: as for the other modes.
 unsafe impl lock_api::RawRwLockUpgrade for RawRwLock {
+    #[inline]
     fn lock_upgradable(&self) {
         self.0.acquire(Mode::Upgradable);
     }
 
+    #[inline]
     fn try_lock_upgradable(&self) -> bool {
         self.0.try_acquire(Mode::Upgradable)
     }
 
+    #[inline]
     unsafe fn unlock_upgradable(&self) {
-        self.0.release(Release::Upgradable);
+        // SAFETY: the caller holds what it releases.
+        unsafe { self.0.release(Release::Upgradable) }
     }
 
+    #[inline]
     unsafe fn upgrade(&self) {
         self.0.acquire(Mode::Upgrade);
     }
 
+    #[inline]
     unsafe fn try_upgrade(&self) -> bool {
         self.0.try_acquire(Mode::Upgrade)
     }
@@ -227,19 +242,25 @@ unsafe impl lock_api::RawRwLockUpgrade for RawRwLock {
 
 // SAFETY: a fair release is a plain one.
 unsafe impl lock_api::RawRwLockUpgradeFair for RawRwLock {
+    #[inline]
     unsafe fn unlock_upgradable_fair(&self) {
-        self.0.release(Release::Upgradable);
+        // SAFETY: the caller holds what it releases.
+        unsafe { self.0.release(Release::Upgradable) }
     }
 }
 
 // SAFETY: a downgrade is one exchange of the proved machine.
 unsafe impl lock_api::RawRwLockUpgradeDowngrade for RawRwLock {
+    #[inline]
     unsafe fn downgrade_upgradable(&self) {
-        self.0.release(Release::UpgradableToShared);
+        // SAFETY: the caller holds what it releases.
+        unsafe { self.0.release(Release::UpgradableToShared) }
     }
 
+    #[inline]
     unsafe fn downgrade_to_upgradable(&self) {
-        self.0.release(Release::ToUpgradable);
+        // SAFETY: the caller holds what it releases.
+        unsafe { self.0.release(Release::ToUpgradable) }
     }
 }
 
@@ -249,18 +270,22 @@ unsafe impl lock_api::RawRwLockTimed for RawRwLock {
     type Duration = Duration;
     type Instant = Instant;
 
+    #[inline]
     fn try_lock_shared_for(&self, timeout: Duration) -> bool {
         self.0.acquire_until(Mode::Shared, Instant::now().checked_add(timeout))
     }
 
+    #[inline]
     fn try_lock_shared_until(&self, deadline: Instant) -> bool {
         self.0.acquire_until(Mode::Shared, Some(deadline))
     }
 
+    #[inline]
     fn try_lock_exclusive_for(&self, timeout: Duration) -> bool {
         self.0.acquire_until(Mode::Exclusive, Instant::now().checked_add(timeout))
     }
 
+    #[inline]
     fn try_lock_exclusive_until(&self, deadline: Instant) -> bool {
         self.0.acquire_until(Mode::Exclusive, Some(deadline))
     }
@@ -269,18 +294,22 @@ unsafe impl lock_api::RawRwLockTimed for RawRwLock {
 #[cfg(feature = "std")]
 // SAFETY: the proved machine answers yes only if the call holds the lock.
 unsafe impl lock_api::RawRwLockUpgradeTimed for RawRwLock {
+    #[inline]
     fn try_lock_upgradable_for(&self, timeout: Duration) -> bool {
         self.0.acquire_until(Mode::Upgradable, Instant::now().checked_add(timeout))
     }
 
+    #[inline]
     fn try_lock_upgradable_until(&self, deadline: Instant) -> bool {
         self.0.acquire_until(Mode::Upgradable, Some(deadline))
     }
 
+    #[inline]
     unsafe fn try_upgrade_for(&self, timeout: Duration) -> bool {
         self.0.acquire_until(Mode::Upgrade, Instant::now().checked_add(timeout))
     }
 
+    #[inline]
     unsafe fn try_upgrade_until(&self, deadline: Instant) -> bool {
         self.0.acquire_until(Mode::Upgrade, Some(deadline))
     }

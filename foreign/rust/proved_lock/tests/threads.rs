@@ -4,6 +4,7 @@
 use proved_lock::{Condvar, Mutex, ReentrantMutex, RwLock, RwLockUpgradableReadGuard, RwLockWriteGuard};
 use std::cell::Cell;
 use std::sync::atomic::{AtomicU64, Ordering::SeqCst};
+use std::sync::Barrier;
 use std::thread;
 use std::time::{Duration, Instant};
 
@@ -103,6 +104,33 @@ fn readers_writers_and_upgrades() {
     let both = lock.try_write().expect("nobody holds it");
     assert_eq!(both.0, both.1);
     assert!(upgrades.load(SeqCst) > 0);
+}
+
+/// The last reader wakes an upgrade that sleeps next to a writer with its bar, although the writer slept first.
+#[test]
+fn upgrades_pass_barred_writers() {
+    const LONG: Duration = Duration::from_secs(5);
+    let (lock, begin) = (RwLock::new(()), Barrier::new(2));
+    let upgrade = || {
+        let guard = lock.upgradable_read();
+        begin.wait();
+        begin.wait();
+        let began = Instant::now();
+        drop(RwLockUpgradableReadGuard::try_upgrade_for(guard, LONG).expect("it is alone"));
+        began.elapsed() < LONG
+    };
+    let let_sleep = || thread::sleep(Duration::from_millis(100));
+    thread::scope(|s| {
+        let read = lock.read();
+        let upgrade = s.spawn(upgrade);
+        begin.wait();
+        s.spawn(|| drop(lock.write()));
+        let_sleep();
+        begin.wait();
+        let_sleep();
+        drop(read);
+        assert!(upgrade.join().expect("no panic"), "the upgrade was not woken");
+    });
 }
 
 #[test]

@@ -1,6 +1,7 @@
 //! Recorded locks in Rust. The argument names two threads, which run one after the other.
 use lock_api::{RwLockUpgradableReadGuard, RwLockWriteGuard};
 use proved_lock::{Recorded, RecordedMutex, RecordedRwLock};
+use std::sync::atomic::{AtomicU32, Ordering::SeqCst};
 use std::{env, process, sync, thread, time::Duration};
 
 type Mutex<T> = lock_api::Mutex<Recorded<parking_lot::RawMutex>, T>;
@@ -11,6 +12,7 @@ static ACCOUNT: Mutex<u32> = Mutex::new(0);
 static RATES: RwLock<u32> = RwLock::new(0);
 static OURS: RecordedMutex<u32> = RecordedMutex::new(0);
 static OUR_RATES: RecordedRwLock<u32> = RecordedRwLock::new(0);
+static ENDED: AtomicU32 = AtomicU32::new(0);
 static STD: [sync::Mutex<u32>; 2] = [sync::Mutex::new(0), sync::Mutex::new(0)];
 
 fn pay() {
@@ -108,8 +110,14 @@ fn main() {
         Some("std") => [std_first, std_second],
         _ => process::exit(2),
     };
-    for it in both {
-        thread::spawn(it);
-        thread::sleep(Duration::from_millis(60));
+    for (it, ended) in both.into_iter().zip(1..) {
+        thread::spawn(move || {
+            it();
+            ENDED.fetch_add(1, SeqCst);
+        });
+        // a join would order the threads
+        for _ in (0..10_000).take_while(|_| ENDED.load(SeqCst) < ended) {
+            thread::sleep(Duration::from_millis(1));
+        }
     }
 }

@@ -4,7 +4,7 @@ use lock_api::model::{
     ParkView, Place, Places, Stage, WordCall, World, WorldParty,
 };
 use lock_api::raw::{
-    Attempt, CallStage, CountRule, Down, EventCount, ExWant, NoTime, Notified, Occupancy, OneRule,
+    Attempt, Begun, CountRule, Down, EventCount, ExWant, NoTime, Notified, Occupancy, OneRule,
     OneView, Party, RealTime, Registered, SeatView, SeatedLock, SleepingCondvar, TimedCondvar,
     TimedRaw, Timing, Wake, WordCore, WordLock, WordRaw, WordRule, WordToken,
 };
@@ -36,5 +36,5 @@ pub fn words(
     _seats: (&OneView, &OneRule),
     _machine: (&WordCall, &Action, &Stage),
     _parking: (&ParkView, &Park, &Debt, &ParkLimits),
-    _events: (&EventCount, &Registered, &Notified, &CallStage, &CountRule),
+    _events: (&EventCount, &Registered, &Notified, &Begun, &CountRule),
 ) {}

@@ -6,7 +6,7 @@ ghost use Rattle.lock_one_word.specs.Drives.{at, looked_at, first_end, Admits};
 
 use crate::word_lock::steps::ended::Ended;
 use crate::word_lock::steps::pending::Pending;
-use lock_one::SLEEPERS;
+use lock_one::TURN;
 use lock_word::ExWant;
 
 /// A call that acquires or upgrades, after its first load and before its exchange.
@@ -21,11 +21,12 @@ pub(crate) struct Looked {
 }
 
 impl Looked {
-    /// Returns the word that the exchange leaves, where the loaded word admits the call and has no bit of sleepers.
+    /// Returns the word that the exchange leaves, where the loaded word admits the call and has neither the turn of readers
+    /// nor the bit of sleepers.
     pub(super) fn exchanged(&self) -> Option<u64>
         ensures { IfSome result (Admits self.now) }
     {
-        if self.word >= SLEEPERS {
+        if self.word >= TURN {
             return None;
         }
         self.want.exchanged(false, self.readers, self.word)

@@ -5,5 +5,5 @@ use Rattle.lock_plan_laws.specs.OrderChecks.{keeps_from}
 use Rattle.lock_plan_order.proofs.lock_ranks.are_kept.Given as goal
 
 abbrev pub invariant-loop-party : goal.invariant-loop-party
-invariant-loop-party l = (party : ℕ) → party < l.party
+invariant-loop-party g l = (party : ℕ) → party < l.party
     → keeps_from (rank_in l.order) (get_or (map (λ v. v.items) l.programs) party []) 0 (get_or (map held_in l.known) party []) ≡ true

@@ -1,15 +1,15 @@
 //! A notification that has ended.
-ghost use Rattle.std.specs.Prelude.{◌≡◌};
-ghost use Rattle.lock_wake.specs.declared.sleepers.stage.CallStage.TheVariants.{FoundNone, OwesWake};
-ghost use Rattle.lock_wake.specs.EventPlays.{reached_of};
-ghost use Rattle.lock_wake.specs.EventCalls.{owed_to};
+ghost use Rattle.std.specs.Prelude.{◌≡◌, true};
+ghost use Rattle.lock_events.specs.declared.stage.EventStage.TheVariants.{Wake, Skipped};
+ghost use Rattle.lock_wake.specs.EventCalls.{owed_by};
+ghost use Rattle.lock_wake.specs.EventPlays.{NotifiesAs};
 
-use crate::owed_wake::OwedWake;
+use crate::owed_wake::{OwedWake, Whom};
 use crate::sleepers::event_count::call::SeatedEventCall;
-use crate::sleepers::event_count::{CLOSED_COUNT, EPOCH, EventCount};
-use crate::sleepers::plays::{WakeAll, WakeOne};
-use crate::sleepers::stage::CallStage;
+use crate::sleepers::event_count::{EventCount, WORD};
+use crate::sleepers::plays::Woke;
 use atomic_table::Seat;
+use lock_events::{Begun, EventWord};
 use std::marker::Model;
 
 /// A notification that has ended. After one of all, no wait that registered before it began sleeps on.
@@ -17,7 +17,7 @@ use std::marker::Model;
 /// Only the calls of an `EventCount` make one, and no clause can: what contracts see has a private field.
 #[derive(Drop)]
 pub struct Notified {
-    seat: Seat<(), CallStage>,
+    seat: Seat<(), Begun>,
     waits: u64,
     all: bool,
 }
@@ -32,59 +32,69 @@ impl Model for Notified {
 
     ghost view = { λ n. ended n.seat.table_id n.seat.id n.waits n.all };
 
-    ghost invariant = { λ n. IsOver n.all n.waits n.seat.me.0 };
+    ghost invariant = { λ n. IsOver n.all n.waits n.seat.me.0.call };
 }
 
 impl Notified {
-    ghost use Rattle.lock_wake.specs.EventCalls.{waiters_of};
-
-    /// Returns how many waits were counted when the notification began. A wait is counted just before it registers, until
-    /// it ends, so some may not have registered yet, and some may have ended since.
+    /// Returns how many waits were registered when the notification last looked at the word. Some may have ended since.
     pub fn waiters(&self) -> u64
-        ensures { result ≡ waiters_of self.now.waits }
+        ensures { result ≡ self.now.waits }
     {
-        self.waits % CLOSED_COUNT
+        self.waits
+    }
+}
+
+impl SeatedEventCall {
+    /// Returns the wake-up that a notification owes.
+    pub(crate) fn owed(&self) -> OwedWake
+        ensures { result ≡ owed_by self.now.call }
+    {
+        OwedWake::new(WORD, if self.call.all { Whom::All } else { Whom::One })
     }
 }
 
 impl EventCount {
-    /// Ends a notification that found no wait.
-    pub(crate) fn found_none(&self, call: SeatedEventCall, all: bool) -> Notified
+    /// Ends a notification that has nobody to wake.
+    pub(crate) fn skip(&self, call: SeatedEventCall, all: bool) -> Notified
         requires events { call.events ≡ self.now }
-        requires none { call.stage ≡ FoundNone }
+        requires notifies { NotifiesAs all call.call }
+        requires skips { call.call.stage ≡ Skipped }
         ensures events { result.events ≡ self.now }
         ensures all { result.all ≡ all }
     {
-        let SeatedEventCall { seat } = call;
+        let SeatedEventCall {
+            seat,
+            call,
+            action: _,
+        } = call;
         Notified {
             seat,
-            waits: 0,
+            waits: EventWord::of(call.loaded).count,
             all,
         }
     }
 
-    /// Makes the wake-up of one thread or of all, after the epoch has ended.
-    pub(crate) fn wake(
-        &self,
-        call: SeatedEventCall,
-        owed: OwedWake,
-        waits: u64,
-        all: bool,
-    ) -> Notified
+    /// Makes the wake-up, after the epoch has ended.
+    pub(crate) fn wake(&self, call: SeatedEventCall, owed: OwedWake, all: bool) -> Notified
         requires events { call.events ≡ self.now }
-        requires owes { call.stage ≡ OwesWake waits (reached_of call.stage) }
-        requires owed { owed ≡ owed_to all }
+        requires notifies { NotifiesAs all call.call }
+        requires wakes { call.call.stage ≡ Wake }
+        requires owed { owed ≡ owed_by call.call }
         ensures events { result.events ≡ self.now }
         ensures all { result.all ≡ all }
     {
-        let SeatedEventCall { mut seat } = call;
+        let SeatedEventCall {
+            mut seat,
+            call,
+            action: _,
+        } = call;
         let shared = &self.table.shared;
         owed.make(shared);
-        if all {
-            shared.load::<WakeAll>(&mut seat, EPOCH);
-        } else {
-            shared.load::<WakeOne>(&mut seat, EPOCH);
+        shared.load::<Woke>(&mut seat, WORD);
+        Notified {
+            seat,
+            waits: EventWord::of(call.loaded).count,
+            all,
         }
-        Notified { seat, waits, all }
     }
 }

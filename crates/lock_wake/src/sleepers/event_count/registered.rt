@@ -1,63 +1,65 @@
-//! A registered wait: how it registers, parks, and is counted no more.
-ghost use Rattle.std.specs.Prelude.{◌≡◌};
-ghost use Rattle.lock_wake.specs.declared.sleepers.stage.CallStage.TheVariants.{Away, Counted};
+//! A wait that has registered: how it parks, and is counted no more.
+ghost use Rattle.std.specs.Prelude.{◌≡◌, true, false};
+ghost use Rattle.lock_wake.specs.EventPlays.{has_arrived};
+ghost use Rattle.lock_events.specs.Kept.{is_registered};
 
 use crate::sleepers::event_count::call::SeatedEventCall;
-use crate::sleepers::event_count::{EPOCH, EventCount, LAST_EPOCH};
-use crate::sleepers::plays::Register;
-use crate::sleepers::stage::CallStage;
+use crate::sleepers::event_count::{EventCount, WORD};
+use crate::sleepers::plays::Leave;
 use crate::watched::Watched;
 use atomic_table::Seat;
+use lock_events::{Begun, EventStage, LAST_EPOCH, ONE_WAIT};
 use std::marker::Model;
 use std::sync::Wait;
 use std::time::Duration;
 
 /// A registered wait: notifications that begin from now on end its sleep. Contracts see it as an `EventCallView`.
 ///
-/// It cannot be dropped: `sleep`, `sleep_until`, `sleep_for` or `leave` ends it.
+/// If the count was full or the epoch the last, the wait has not registered, and yields in place of its sleep. It cannot be
+/// dropped: `sleep`, `sleep_until`, `sleep_for` or `leave` ends it.
 pub struct Registered {
     call: SeatedEventCall,
     epoch: Watched,
 }
 
 impl Model for Registered {
-    ghost use Rattle.std.specs.Prelude.{◌≡◌, ◌<◌, ◌≤◌};
-    ghost use Rattle.lock_wake.specs.declared.sleepers.stage.CallStage.TheVariants.{Counted, Registered};
-    ghost use Rattle.lock_wake.specs.EventCounts.{count_of, last_epoch};
-    ghost use Rattle.lock_wake.specs.EventPlays.{before_of};
-    ghost use Rattle.lock_wake.specs.EventCalls.{EventCallView};
+    ghost use Rattle.std.specs.Prelude.{◌≡◌, true};
+    ghost use Rattle.lock_wake.specs.EventCalls.{EventCallView, watched_at};
+    ghost use Rattle.lock_wake.specs.EventPlays.{has_arrived};
 
     ghost Value = { EventCallView };
 
     ghost view = { λ r. r.call };
 
     ghost invariant = { λ r.
-        (r.epoch.word ≡ 1)
-        × (count_of r.call.stage ≡ 1)
-        × (r.epoch.number < last_epoch → r.call.stage ≡ Registered (before_of r.call.stage) r.epoch.number)
-        × (last_epoch ≤ r.epoch.number → r.call.stage ≡ Counted) };
+        (r.epoch.word ≡ 0)
+        × (r.epoch.number ≡ watched_at r.call.call.stage r.call.call.epoch)
+        × (has_arrived r.call.call.stage ≡ true) };
 }
 
-/// A registered wait that has parked, and is still counted. Only `park` makes one.
+/// A wait that has parked, and is still counted. Only `park` makes one.
 pub(crate) struct Parked {
     pub(super) registered: Registered,
 }
 
 impl EventCount {
-    /// Loads the epoch, which registers a counted wait.
-    pub(crate) fn watch(&self, mut call: SeatedEventCall) -> Registered
+    /// Notes the epoch in which the wait sleeps.
+    pub(crate) fn watch(&self, call: SeatedEventCall) -> Registered
         requires events { call.events ≡ self.now }
-        requires counted { call.stage ≡ Counted }
+        requires arrived { has_arrived call.call.stage ≡ true }
         ensures { result.events ≡ self.now }
     {
-        let epoch = self.table.shared.load::<Register>(&mut call.seat, EPOCH);
+        let epoch = match call.call.stage {
+            EventStage::Unlock => call.call.epoch,
+            _ => LAST_EPOCH,
+        };
         Registered {
             call,
-            epoch: Watched::new(EPOCH, epoch),
+            epoch: Watched::new(WORD, epoch),
         }
     }
 
-    /// Parks the thread while the epoch is that of the registration. It yields in the last epoch, which may begin again.
+    /// Parks the thread while the epoch is that of the registration. A wait that has not registered yields.
     pub(crate) fn park<R: Wait>(
         &self,
         rt: &R,
@@ -81,16 +83,26 @@ impl EventCount {
     }
 
     /// Takes a registered wait out of the count, which ends it.
-    pub(super) fn count_away(&self, registered: Registered) -> Seat<(), CallStage>
+    pub(super) fn count_away(&self, registered: Registered) -> Seat<(), Begun>
         requires { registered.events ≡ self.now }
         ensures wait { (result.table_id ≡ self.now) × (result.id ≡ registered.number) }
-        ensures away { result.me.0 ≡ Away }
+        ensures away { is_registered result.me.0.call.stage ≡ false }
     {
-        let Registered { mut call, epoch } = registered;
+        let Registered { call, epoch } = registered;
         epoch.end();
-        self.count_out(&mut call);
-        self.restart_if_last(&mut call);
-        let SeatedEventCall { seat } = call;
+        let SeatedEventCall {
+            mut seat,
+            call,
+            action: _,
+        } = call;
+        match call.stage {
+            EventStage::Unlock => {
+                self.table
+                    .shared
+                    .fetch_sub::<Leave>(&mut seat, WORD, ONE_WAIT);
+            }
+            _ => (),
+        }
         seat
     }
 }

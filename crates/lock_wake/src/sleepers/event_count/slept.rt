@@ -1,12 +1,11 @@
 //! A wait that has slept.
 ghost use Rattle.std.specs.Prelude.{◌≡◌, Option, option_map, Bool, Some, true};
 ghost use Rattle.std.specs.Time.{instant_nanos};
-ghost use Rattle.lock_wake.specs.declared.sleepers.stage.CallStage.TheVariants.{Away};
 
 use crate::sleepers::event_count::EventCount;
 use crate::sleepers::event_count::registered::{Parked, Registered};
-use crate::sleepers::stage::CallStage;
 use atomic_table::Seat;
+use lock_events::Begun;
 use std::marker::Model;
 use std::time::Instant;
 
@@ -15,15 +14,15 @@ use std::time::Instant;
 /// Only the calls of an `EventCount` make one, and no clause can: what contracts see has a private field.
 #[derive(Drop)]
 pub struct Slept {
-    seat: Seat<(), CallStage>,
+    seat: Seat<(), Begun>,
     deadline: Option<Instant>,
     timed_out: bool,
 }
 
 impl Model for Slept {
-    ghost use Rattle.std.specs.Prelude.{◌≡◌, option_map};
+    ghost use Rattle.std.specs.Prelude.{◌≡◌, option_map, false};
     ghost use Rattle.std.specs.Time.{instant_nanos};
-    ghost use Rattle.lock_wake.specs.declared.sleepers.stage.CallStage.TheVariants.{Away};
+    ghost use Rattle.lock_events.specs.Kept.{is_registered};
     ghost use Rattle.lock_wake.specs.EventSeals.{Asleep, slept, slept_code};
 
     ghost Value = { Asleep };
@@ -32,7 +31,7 @@ impl Model for Slept {
 
     ghost view = { λ s. slept s.seat.table_id s.seat.id (option_map instant_nanos s.deadline) s.timed_out };
 
-    ghost invariant = { λ s. s.seat.me.0 ≡ Away };
+    ghost invariant = { λ s. is_registered s.seat.me.0.call.stage ≡ false };
 }
 
 impl Slept {

@@ -1,9 +1,10 @@
 use Rattle.std.proofs.Common.{true, false, is_ok, sym, ap, subst, ◌∙◌}
 use Rattle.lock_one.specs.declared.action.Action.{Action}
+use Rattle.lock_one.specs.declared.action.Action.TheVariants.{End}
 use Rattle.lock_one_word.specs.Calls.{IsTry}
-use Rattle.lock_one_word.specs.Drives.{IsTrying, ended_with, says_yes}
+use Rattle.lock_one_word.specs.Drives.{IsTrying, ended_with, is_tried, is_exchange, says_yes}
 use Rattle.lock_one_word.specs.Seats.{to_acquire, IsGoing}
-use Rattle.lock_one_word.proofs.TryEnds.{tries_again, tried, only_tries, is_exchange, no_exchange, no_ends, yes_ends}
+use Rattle.lock_one_word.proofs.TryEnds.{tries_again, tried, no_exchange, asks_end}
 use Rattle.lock_one_word.proofs.Causes.{try_ended, try_spent, by_answer}
 use Rattle.lock_one_word.proofs.word_lock.WordLock.try_on.Goals as goal
 
@@ -26,7 +27,7 @@ pub returns-then-is_spent-clause-tried : goal.returns-then-is_spent-clause-tried
 returns-then-is_spent-clause-tried c before wish clean awaited going =
     let is = sym c.action.ensures ∙ c.in-Exchange.is in
     tried c.loop-old.pending.call c.loop-old.pending.action c.loop-old.seat.seat.me.0 before wish clean awaited (c.loop-old.invariant.5 before (to_acquire wish) going)
-    c.loop-old.invariant.4 false (sym (ap says_yes is))
+    c.loop-old.invariant.4 (ap is_tried is) false (sym (ap says_yes is))
 
 pub returns-then-is_spent-clause-ended : goal.returns-then-is_spent-clause-ended
 returns-then-is_spent-clause-ended c before wish going =
@@ -36,24 +37,34 @@ returns-then-is_spent-clause-ended c before wish going =
     (try_spent p c.loop-old.seat.seat.me.0 before wish c.end.result (c.loop-old.invariant.5 before (to_acquire wish) going) c.loop-old.invariant.4.tries
     (c.is_spent.ensures.spent c.if-is_spent.true) (c.end.ensures.end ∙ ap (λ b. ended_with p b) unacquired))
 
+pub answer-requires : goal.answer-requires
+answer-requires c =
+    let now = c.loop-old.invariant.3 in
+    let none = sym (ap is_exchange c.action.ensures) ∙ no_exchange c.action.result (λ x y h. c.in_default.not-Exchange x y h) in
+    let over = c.wake_readers.ensures now.0 now.1 c.loop-old.seat.seat.me.0 now.2 c.loop-old.invariant.4 none in
+    asks_end c.wake_readers.new.pending.action over.2 over.3 ∙ ap (λ b. End b) (sym (c.says_yes-acquired.ensures ∙ ap says_yes c.action-2.ensures))
+
 pub returns : goal.returns
 returns c =
     let p = c.loop-old.pending in
+    let q = c.wake_readers.new.pending in
     let me = c.loop-old.seat.seat.me.0 in
     let now = c.loop-old.invariant.3 in
+    let none = sym (ap is_exchange c.action.ensures) ∙ no_exchange c.action.result (λ x y h. c.in_default.not-Exchange x y h) in
+    let over = c.wake_readers.ensures in
     let yes_ = c.says_yes-acquired.ensures ∙ ap says_yes c.action-2.ensures in record {
       table = (c.loop-old.invariant.0, c.loop-old.invariant.1, c.loop-old.invariant.2);
       tried = λ before wish clean awaited going.
-          tried p.call p.action me before wish clean awaited (c.loop-old.invariant.5 before (to_acquire wish) going) c.loop-old.invariant.4
+          let there = over before (to_acquire wish) me (c.loop-old.invariant.5 before (to_acquire wish) going) c.loop-old.invariant.4 none in
+          tried q.call q.action me before wish clean awaited there.0 there.1 there.2
           (is_ok c.answer.result) (c.answer.ensures.answer ∙ yes_);
       ended = λ before wish going.
+          let there = over before (to_acquire wish) me (c.loop-old.invariant.5 before (to_acquire wish) going) c.loop-old.invariant.4 none in
           by_answer c.answer.result c.says_yes-acquired.result _ _ _ _ c.answer.ensures.answer c.answer.ensures.end
           (λ on e is. subst (λ n. IsTry n wish true e) c.loop-old.invariant.2
-          (try_ended p me before wish true e (c.loop-old.invariant.5 before (to_acquire wish) going) (yes_ends p.action (sym yes_ ∙ on)) c.loop-old.invariant.4.tries
+          (try_ended q me before wish true e there.0 (asks_end q.action there.2 there.3 ∙ ap (λ b. End b) (sym yes_ ∙ on)) there.1.tries
           c.answer.ensures.has_cause is))
           (λ off e is. subst (λ n. IsTry n wish false e) c.loop-old.invariant.2
-          (try_ended p me before wish false e (c.loop-old.invariant.5 before (to_acquire wish) going)
-          (no_ends p.action (only_tries p.call p.action me now.0 now.1 now.2 c.loop-old.invariant.4)
-          (sym (ap is_exchange c.action.ensures) ∙ no_exchange c.action.result (λ x y h. c.in_default.not-Exchange x y h)) (sym yes_ ∙ off))
-          c.loop-old.invariant.4.tries c.answer.ensures.has_cause is));
+          (try_ended q me before wish false e there.0 (asks_end q.action there.2 there.3 ∙ ap (λ b. End b) (sym yes_ ∙ off)) there.1.tries
+          c.answer.ensures.has_cause is));
     }

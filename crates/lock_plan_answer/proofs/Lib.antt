@@ -1,2 +1,0 @@
-mod Past
-mod Rows

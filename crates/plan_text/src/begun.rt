@@ -1,0 +1,107 @@
+//! The parties that begin.
+use crate::bad_lines::BadLines;
+use crate::fault::TextFault;
+use crate::line_fault::LineFault;
+use crate::tree::Tree;
+use std::alloc::{AllocError, Global};
+
+/// What is known of whether a party begins.
+#[derive(Clone, Copy, PartialEq, Eq)]
+enum Begins {
+    Unknown,
+    /// The walk from party to starter came here.
+    Walked,
+    Yes,
+    Never,
+}
+
+/// Refuses a tree in which a line names an unknown party, or some party never begins.
+pub(crate) fn check_begun(alloc: Global, tree: &Tree) -> Result<(), TextFault> {
+    let parties = &tree.names.parties;
+    let mut bad = BadLines::new(alloc);
+    for (mention, name) in tree.mentions.as_slice().iter().enumerate() {
+        if !parties.contains(name) && !bad.is_full() {
+            let line = tree.mention_lines.get(mention).copied().unwrap_or(0);
+            bad.tell(alloc, &tree.names.words, line, 1, LineFault::UnknownParty)?;
+        }
+    }
+    bad.fault(alloc)?;
+    if tree.started.is_empty() {
+        return Ok(());
+    }
+    let begin = begin(alloc, tree)?;
+    for (party, name) in parties.as_slice().iter().enumerate() {
+        if begin.get(party).copied() == Some(Begins::Never) {
+            let start = tree.started.get_index_of(name).unwrap_or(0);
+            let line = tree.start_lines.get(start).copied().unwrap_or(0);
+            bad.tell(alloc, &tree.names.words, line, 1, LineFault::NeverBegins)?;
+            return bad.fault(alloc);
+        }
+    }
+    Ok(())
+}
+
+/// Returns for each party whether it begins: no line starts it, or a line of a party that begins does.
+fn begin(alloc: Global, tree: &Tree) -> Result<Vec<Begins>, AllocError> {
+    let starters = starters(alloc, tree)?;
+    let mut begin = vec![in alloc; Begins::Unknown; starters.len()]?;
+    for party in 0..starters.len() {
+        walk(alloc, starters.as_slice(), &mut begin, party)?;
+    }
+    Ok(begin)
+}
+
+/// Returns for each party the one whose line starts it.
+fn starters(alloc: Global, tree: &Tree) -> Result<Vec<Option<usize>>, AllocError> {
+    let mut starters = Vec::new(alloc);
+    for name in tree.names.parties.as_slice() {
+        starters.push(match tree.started.get_index_of(name) {
+            Some(start) => tree.starters.get(start).copied(),
+            None => None,
+        })?;
+    }
+    Ok(starters)
+}
+
+/// Walks from a party to its starter, and on, and notes for all of them whether they begin.
+fn walk(
+    alloc: Global,
+    starters: &[Option<usize>],
+    begin: &mut Vec<Begins>,
+    party: usize,
+) -> Result<(), AllocError> {
+    let mut path = Vec::new(alloc);
+    let mut at = party;
+    let mut end = Begins::Never;
+    for _step in 0..starters.len() {
+        match begin.get(at).copied() {
+            Some(Begins::Unknown) => {}
+            Some(Begins::Yes) => {
+                end = Begins::Yes;
+                break;
+            }
+            _ => break,
+        }
+        path.push(at)?;
+        match starters.get(at).copied().flatten() {
+            None => {
+                end = Begins::Yes;
+                break;
+            }
+            Some(starter) => {
+                note(begin, at, Begins::Walked);
+                at = starter;
+            }
+        }
+    }
+    for party in &path {
+        note(begin, *party, end);
+    }
+    Ok(())
+}
+
+fn note(begin: &mut Vec<Begins>, party: usize, what: Begins) {
+    if let Some(known) = begin.get_mut(party) {
+        *known = what;
+    }
+}

@@ -1,0 +1,231 @@
+//! What is searched: the locks of a plan, and the places of its parties, with their names and lines.
+use crate::bad_lines::{BadLines, fault_of};
+use crate::begun::check_begun;
+use crate::fault::TextFault;
+use crate::forms::{FORMS, Form, Role};
+use crate::line::Line;
+use crate::line_fault::{LineFault, Refusal};
+use crate::line_list::expand;
+use crate::misread::misread;
+use crate::names::Names;
+use crate::programs::Programs;
+use crate::reading::read;
+use crate::scan::{Scanned, scan};
+use crate::tree::Tree;
+use crate::words::Words;
+use lock_plan::{CallFault, Plan, PlanFault, PlanLock};
+use std::alloc::Global;
+use std::mem::replace;
+
+/// A plan as it is searched.
+#[derive(Drop)]
+pub struct Core {
+    pub names: Names,
+    pub locks: Vec<PlanLock>,
+    pub programs: Programs,
+    /// Whether each party is a server.
+    servers: Vec<bool>,
+}
+
+/// A plan, its names, and the lines of its places.
+#[derive(Drop)]
+pub struct NamedPlan {
+    pub plan: Plan,
+    pub names: Names,
+    pub programs: Programs,
+}
+
+/// Reads the text of a plan.
+///
+/// # Errors
+///
+/// `TooLong` if the text is longer than a text may be once it is written out. Then `Lines`: bad ones, in a text with a block open
+/// at its end the line after the last; else those that name unknown parties; else the first one that starts a party which never
+/// begins. `OutOfMemory` at any time.
+pub fn read_plan(alloc: Global, bytes: &[u8]) -> Result<Core, TextFault> {
+    // each exit that drops a value of many fields is proved anew, so the work is done on a borrow
+    let mut scanned = scan(alloc, bytes)?;
+    read_scanned(alloc, &mut scanned)
+}
+
+/// Reads a scanned text, and takes its words.
+fn read_scanned(alloc: Global, scanned: &mut Scanned) -> Result<Core, TextFault> {
+    let lines = expand(alloc, &mut scanned.text, scanned.lines.as_slice())?;
+    let words = replace(&mut scanned.text.words, Words::new(alloc));
+    let mut tree = Tree::new(alloc, Names::new(alloc, words));
+    let fields = scanned.text.fields.as_slice();
+    read_tree(alloc, &mut tree, fields, lines.as_slice(), scanned.number)
+}
+
+/// Reads lines into a tree, and elaborates it. The line after the last has the number `end`.
+fn read_tree(
+    alloc: Global,
+    tree: &mut Tree,
+    fields: &[usize],
+    lines: &[Line],
+    end: u64,
+) -> Result<Core, TextFault> {
+    add_lines(alloc, tree, fields, lines, end)?;
+    check_begun(alloc, tree)?;
+    let mut programs = Programs::new(alloc);
+    match programs.add_all(alloc, tree) {
+        Ok(()) => Ok(Core::of(alloc, tree, programs)),
+        Err(_) => Err(TextFault::OutOfMemory),
+    }
+}
+
+/// Adds lines to a tree, and looks at its end.
+fn add_lines(
+    alloc: Global,
+    tree: &mut Tree,
+    fields: &[usize],
+    lines: &[Line],
+    end: u64,
+) -> Result<(), TextFault> {
+    let mut bad = BadLines::new(alloc);
+    add_each(alloc, tree, &mut bad, fields, lines)?;
+    if !bad.is_full() {
+        if let Some(fault) = tree.end_fault(lines.is_empty()) {
+            bad.tell(alloc, &tree.names.words, end, 0, fault)?;
+        }
+    }
+    bad.fault(alloc)
+}
+
+/// Adds lines to a tree, but the bad ones.
+fn add_each(
+    alloc: Global,
+    tree: &mut Tree,
+    bad: &mut BadLines,
+    fields: &[usize],
+    lines: &[Line],
+) -> Result<(), TextFault> {
+    for line in lines {
+        if bad.is_full() {
+            break;
+        }
+        let words = line.fields(fields);
+        match add_line(alloc, tree, *line, words) {
+            Ok(()) => {}
+            Err(Refusal::OutOfMemory) => return Err(TextFault::OutOfMemory),
+            Err(Refusal::Bad(fault)) => {
+                bad.add(alloc, &tree.names.words, line.number, words, fault)?;
+                recover(alloc, tree, bad, line.number, words, fault)?;
+            }
+        }
+    }
+    Ok(())
+}
+
+/// Does what a bad line seems to mean for the lines after it.
+fn recover(
+    alloc: Global,
+    tree: &mut Tree,
+    bad: &mut BadLines,
+    line: u64,
+    fields: &[usize],
+    fault: LineFault,
+) -> Result<(), TextFault> {
+    let Some(form) = meant(&tree.names.words, fields, fault) else {
+        return Ok(());
+    };
+    match form.2 {
+        Role::Lock(_) | Role::Flag | Role::Condvar => {
+            if let [_, name, ..] = fields {
+                bad.misdeclare(*name)?;
+            }
+        }
+        Role::Party(_) => tree.begin_unnamed(alloc)?,
+        _ => tree.turn_misread(line, form, fault)?,
+    }
+    Ok(())
+}
+
+/// Returns the form of a bad line of these words: of its first word, or of the one that is like it.
+fn meant(words: &Words, fields: &[usize], fault: LineFault) -> Option<Form> {
+    let first = fields.first().copied()?;
+    match (words.form(first), fault) {
+        (Some(form), _) => Some(form),
+        (None, LineFault::Misspelt(_, near)) => {
+            FORMS.iter().find(|form| form.0 == near).copied()
+        }
+        _ => None,
+    }
+}
+
+/// Adds a line of these words to the tree.
+fn add_line(alloc: Global, tree: &mut Tree, line: Line, fields: &[usize]) -> Result<(), Refusal> {
+    if !line.is_utf8 {
+        return Err(Refusal::Bad(LineFault::NotUtf8));
+    }
+    let word = fields.first().copied().unwrap_or(0);
+    let words = &tree.names.words;
+    match (words.form(word), read(words, fields)) {
+        (Some(form), Some(said)) => tree.add(alloc, line.number, word, form, said),
+        _ => Err(Refusal::Bad(misread(alloc, words, fields)?)),
+    }
+}
+
+impl Core {
+    /// Makes the core of these programs, and takes the names, the locks and the servers of the tree.
+    pub(crate) fn of(alloc: Global, tree: &mut Tree, programs: Programs) -> Core {
+        Core {
+            names: replace(&mut tree.names, Names::new(alloc, Words::new(alloc))),
+            locks: replace(&mut tree.locks, Vec::new(alloc)),
+            servers: replace(&mut tree.servers, Vec::new(alloc)),
+            programs,
+        }
+    }
+
+    /// Returns whether a party is a server.
+    pub(crate) fn is_server(&self, party: usize) -> bool {
+        self.servers.get(party).copied().unwrap_or(false)
+    }
+
+    /// Returns whether a party is a copy of the one before it.
+    pub(crate) fn is_copy(&self, party: usize) -> bool {
+        self.programs.is_copy(self.servers.as_slice(), party)
+    }
+
+    /// Makes the plan, and takes the parts of the core for it.
+    ///
+    /// # Errors
+    ///
+    /// `Lines` with the line of the first act, party by party, that can never be made. Then `TooLarge`. `OutOfMemory` at any
+    /// time.
+    pub fn take_plan(&mut self, alloc: Global) -> Result<NamedPlan, TextFault> {
+        let (programs, copies) = self.programs.alike(alloc, self.servers.as_slice())?;
+        let locks = replace(&mut self.locks, Vec::new(alloc));
+        let servers = replace(&mut self.servers, Vec::new(alloc));
+        match Plan::new(alloc, locks, programs, servers, copies) {
+            Ok(plan) => Ok(NamedPlan {
+                plan,
+                names: replace(&mut self.names, Names::new(alloc, Words::new(alloc))),
+                programs: replace(&mut self.programs, Programs::new(alloc)),
+            }),
+            Err(fault) => Err(self.fault(alloc, fault)),
+        }
+    }
+
+    /// Returns a fault of the plan, with the line in the place of the party and its place.
+    pub fn fault(&self, alloc: Global, fault: PlanFault) -> TextFault {
+        match fault {
+            PlanFault::Call(row, place, why) => {
+                call_fault(alloc, self.programs.line(row, place), why)
+            }
+            PlanFault::TooLarge => TextFault::TooLarge,
+            PlanFault::OutOfMemory => TextFault::OutOfMemory,
+        }
+    }
+}
+
+/// Makes the fault of a line with a call that can never be made.
+fn call_fault(alloc: Global, line: u64, why: CallFault) -> TextFault {
+    match format!(in alloc; "{why}") {
+        Ok(why) => match fault_of(alloc, line, 0, why) {
+            Ok(fault) => fault,
+            Err(_) => TextFault::OutOfMemory,
+        },
+        Err(_) => TextFault::OutOfMemory,
+    }
+}

@@ -1,0 +1,306 @@
+//! Reading the text of a core.
+use crate::bad_lines::{fault_of, word_of};
+use crate::core_act::act;
+use crate::core_plan::Core;
+use crate::core_text::{has_two_ways, ways};
+use crate::fault::TextFault;
+use crate::forms::Role;
+use crate::line::Line;
+use crate::line_fault::{LineFault, Refusal};
+use crate::names::Names;
+use crate::programs::Programs;
+use crate::reading::read;
+use crate::scan::{Scanned, scan};
+use crate::tree::Tree;
+use crate::words::Words;
+use lock_plan::ProgramPlace;
+use script_text::unsigned;
+use std::alloc::{AllocError, Global};
+use std::mem::replace;
+
+/// The places of a party so far.
+#[derive(Drop)]
+struct Below {
+    /// How many parties have them, or `None` above the first party.
+    parties: Option<usize>,
+    places: Vec<ProgramPlace>,
+    lines: Vec<u64>,
+    /// The last place to which a way leads, and the number of that line.
+    farthest: (usize, u64),
+}
+
+/// Reads the text of a core, as [`Core::text`] makes it.
+///
+/// # Errors
+///
+/// The first bad line, in a text without lines the line after the last. `OutOfMemory` at any time.
+pub fn read_core(alloc: Global, bytes: &[u8]) -> Result<Core, TextFault> {
+    let mut scanned = scan(alloc, bytes)?;
+    read_scanned(alloc, &mut scanned)
+}
+
+fn read_scanned(alloc: Global, scanned: &mut Scanned) -> Result<Core, TextFault> {
+    let words = replace(&mut scanned.text.words, Words::new(alloc));
+    let mut tree = Tree::new(alloc, Names::new(alloc, words));
+    let fields = scanned.text.fields.as_slice();
+    let lines = scanned.lines.as_slice();
+    add_names(alloc, &mut tree, fields, lines)?;
+    if lines.is_empty() {
+        let words = &tree.names.words;
+        return Err(fault(alloc, words, (scanned.number, 0, LineFault::NothingSaid)));
+    }
+    let mut programs = Programs::new(alloc);
+    add_programs(alloc, &tree.names, &mut programs, fields, lines)?;
+    programs.add_flags(alloc, tree.names.flags.len())?;
+    Ok(Core::of(alloc, &mut tree, programs))
+}
+
+/// Adds what the lines declare, and the names of the parties.
+fn add_names(
+    alloc: Global,
+    tree: &mut Tree,
+    fields: &[usize],
+    lines: &[Line],
+) -> Result<(), TextFault> {
+    for line in lines {
+        match add_name(alloc, tree, *line, line.fields(fields)) {
+            Ok(()) => {}
+            Err(Refusal::OutOfMemory) => return Err(TextFault::OutOfMemory),
+            Err(Refusal::Bad(why)) => {
+                let words = &tree.names.words;
+                let word = word_of(words, line.fields(fields), why);
+                return Err(fault(alloc, words, (line.number, word, why)));
+            }
+        }
+    }
+    Ok(())
+}
+
+/// Adds what a line declares, or the names of its parties.
+fn add_name(alloc: Global, tree: &mut Tree, line: Line, fields: &[usize]) -> Result<(), Refusal> {
+    if !line.is_utf8 {
+        return Err(Refusal::Bad(LineFault::NotUtf8));
+    }
+    let [word, names @ ..] = fields else {
+        return Ok(());
+    };
+    let Some(form) = tree.names.words.form(*word) else {
+        return Ok(());
+    };
+    match form.2 {
+        Role::Lock(_) | Role::Flag | Role::Condvar => match read(&tree.names.words, fields) {
+            Some(said) => tree.add(alloc, line.number, *word, form, said),
+            None => Err(Refusal::Bad(LineFault::Form(form))),
+        },
+        Role::Party(_) if names.is_empty() => Err(Refusal::Bad(LineFault::Form(form))),
+        Role::Party(is_server) => {
+            for name in names {
+                tree.add_named(*name, is_server)?;
+            }
+            Ok(())
+        }
+        _ => Ok(()),
+    }
+}
+
+/// Adds the programs of the parties.
+fn add_programs(
+    alloc: Global,
+    names: &Names,
+    programs: &mut Programs,
+    fields: &[usize],
+    lines: &[Line],
+) -> Result<(), TextFault> {
+    let mut below = Below::new(alloc);
+    for line in lines {
+        let read = match below.add(alloc, names, programs, *line, line.fields(fields)) {
+            Ok(read) => read,
+            Err(_) => return Err(TextFault::OutOfMemory),
+        };
+        if let Err(bad) = read {
+            return Err(fault(alloc, &names.words, bad));
+        }
+    }
+    match below.end(alloc, programs)? {
+        Ok(()) => Ok(()),
+        Err(bad) => Err(fault(alloc, &names.words, bad)),
+    }
+}
+
+/// The number of a bad line, which of its words is wrong, and why.
+type Bad = (u64, usize, LineFault);
+
+/// Makes the fault of a bad line.
+fn fault(alloc: Global, words: &Words, bad: Bad) -> TextFault {
+    let made = match bad.2.why(alloc, words) {
+        Ok(why) => fault_of(alloc, bad.0, bad.1, why),
+        Err(refused) => Err(refused),
+    };
+    match made {
+        Ok(fault) => fault,
+        Err(_) => TextFault::OutOfMemory,
+    }
+}
+
+impl Below {
+    fn new(alloc: Global) -> Below {
+        Below {
+            parties: None,
+            places: Vec::new(alloc),
+            lines: Vec::new(alloc),
+            farthest: (0, 0),
+        }
+    }
+
+    /// Adds the line of a place, or begins the places of other parties.
+    fn add(
+        &mut self,
+        alloc: Global,
+        names: &Names,
+        programs: &mut Programs,
+        line: Line,
+        fields: &[usize],
+    ) -> Result<Result<(), Bad>, AllocError> {
+        let [word, rest @ ..] = fields else {
+            return Ok(Ok(()));
+        };
+        match names.words.form(*word).map(|form| form.2) {
+            Some(Role::Lock(_) | Role::Flag | Role::Condvar) => Ok(Ok(())),
+            Some(Role::Party(_)) => {
+                let ended = self.end(alloc, programs)?;
+                self.parties = Some(rest.len());
+                Ok(ended)
+            }
+            _ => self.add_place(names, line.number, fields),
+        }
+    }
+
+    fn add_place(
+        &mut self,
+        names: &Names,
+        number: u64,
+        fields: &[usize],
+    ) -> Result<Result<(), Bad>, AllocError> {
+        if self.parties.is_none() {
+            let word = fields.first().copied().unwrap_or(0);
+            return Ok(Err((number, 0, LineFault::NoParty(word))));
+        }
+        let next = self.places.len().saturating_add(1) as u64;
+        match read_place(names, next, number, fields) {
+            Ok((place, line)) => {
+                self.note(number, place.next);
+                self.note(number, place.other);
+                self.places.push(place)?;
+                self.lines.push(line)?;
+                Ok(Ok(()))
+            }
+            Err(why) => Ok(Err((number, word_of(&names.words, fields, why), why))),
+        }
+    }
+
+    /// Notes a way of the line with this number.
+    fn note(&mut self, number: u64, way: usize) {
+        if way != usize::MAX && (self.farthest.1 == 0 || way > self.farthest.0) {
+            self.farthest = (way, number);
+        }
+    }
+
+    /// Adds the program of the parties, and forgets it.
+    fn end(
+        &mut self,
+        alloc: Global,
+        programs: &mut Programs,
+    ) -> Result<Result<(), Bad>, AllocError> {
+        let Some(parties) = self.parties else {
+            return Ok(Ok(()));
+        };
+        let end = self.places.len();
+        if self.farthest.1 > 0 && self.farthest.0 >= end {
+            return Ok(Err((self.farthest.1, 0, LineFault::NoSuchPlace)));
+        }
+        for at in 0..end {
+            if let Some(place) = self.places.get_mut(at) {
+                place.next = place.next.min(end);
+                place.other = place.other.min(end);
+            }
+        }
+        let places = replace(&mut self.places, Vec::new(alloc));
+        let lines = replace(&mut self.lines, Vec::new(alloc));
+        self.farthest = (0, 0);
+        programs.add_shared(places, lines, parties)?;
+        Ok(Ok(()))
+    }
+}
+
+/// Reads the line of a place with this number, and returns the number of the plan's line that it names, or its own.
+fn read_place(
+    names: &Names,
+    next: u64,
+    own: u64,
+    fields: &[usize],
+) -> Result<(ProgramPlace, u64), LineFault> {
+    let words = &names.words;
+    let arrow = arrow_of(words, fields);
+    if arrow < 1 || arrow >= fields.len() {
+        return Err(LineFault::NoPlace);
+    }
+    let number = fields.first().copied().unwrap_or(0);
+    if unsigned(words.text(number)) != Some(next) {
+        return Err(LineFault::NoPlaceNumber(number, next));
+    }
+    let act = act(names, &fields[1..arrow])?;
+    let Some((first, second, line)) = read_ways(words, &fields[arrow..]) else {
+        return Err(LineFault::NoPlace);
+    };
+    if second.is_some() != has_two_ways(act) {
+        return Err(LineFault::NoPlace);
+    }
+    let place = ProgramPlace {
+        act,
+        next: first,
+        other: second.unwrap_or(first),
+    };
+    let (next, other) = ways(names, place);
+    Ok((ProgramPlace { act, next, other }, line.unwrap_or(own)))
+}
+
+/// Returns where the arrow is among words, or their number.
+fn arrow_of(words: &Words, fields: &[usize]) -> usize {
+    let mut before = 0usize;
+    for field in fields {
+        if words.is(*field, "->") {
+            break;
+        }
+        before = before.saturating_add(1);
+    }
+    before
+}
+
+/// What comes after an act: one way or two, and perhaps the number of a line.
+type Ways = (usize, Option<usize>, Option<u64>);
+
+/// Reads what comes after an act, from the arrow on.
+fn read_ways(words: &Words, fields: &[usize]) -> Option<Ways> {
+    let (first, second, rest) = match fields {
+        [_, first, bar, second, rest @ ..] if words.is(*bar, "|") => {
+            (*first, Some(way(words, *second)?), rest)
+        }
+        [_, first, rest @ ..] => (*first, None, rest),
+        _ => return None,
+    };
+    let line = match rest {
+        [] => None,
+        [word, number] if words.is(*word, "line") => Some(unsigned(words.text(*number))?),
+        _ => return None,
+    };
+    Some((way(words, first)?, second, line))
+}
+
+/// Reads a way: the number of a place, or `end`.
+fn way(words: &Words, field: usize) -> Option<usize> {
+    if words.is(field, "end") {
+        return Some(usize::MAX);
+    }
+    let number = unsigned(words.text(field))?;
+    usize::try_from(number).ok()?.checked_sub(1)
+}

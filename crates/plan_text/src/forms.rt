@@ -1,0 +1,155 @@
+//! The words that lines begin with.
+use lock_modes::{Kind, LockStep, Mode, ModeStep};
+
+/// A word that lines begin with: the word, what comes after it as a usage line has it, and what such a line does.
+#[derive(Clone, Copy)]
+pub(crate) struct Form(
+    pub(crate) &'static str,
+    pub(crate) &'static str,
+    pub(crate) Role,
+);
+
+/// What a line with such a word does.
+#[derive(Clone, Copy, PartialEq, Eq)]
+pub(crate) enum Role {
+    Lock(Kind),
+    Flag,
+    Condvar,
+    /// Begins parties, and whether they are servers.
+    Party(bool),
+    /// A call, and whether its word is one for reader-writer locks.
+    Call(bool, LockStep),
+    Set,
+    Clear,
+    Assert,
+    Wait,
+    NotifyOne,
+    NotifyAll,
+    Start,
+    Join,
+    Repeat,
+    Forever,
+    Leave,
+    Return,
+    Either,
+    Or,
+    Try,
+    If,
+    Else,
+    End,
+}
+
+/// All words that lines begin with. A word's number in [`Words`](crate::words::Words) is its place here.
+pub(crate) static FORMS: [Form; 39] = [
+    Form("mutex", "NAME [fair]", Role::Lock(Kind::Mutex)),
+    Form(
+        "rwlock",
+        "NAME READERS [bar | fair]",
+        Role::Lock(Kind::RwLock),
+    ),
+    Form("reentrant", "NAME LEVELS", Role::Lock(Kind::Reentrant)),
+    Form("flag", "NAME [true]", Role::Flag),
+    Form("condvar", "NAME", Role::Condvar),
+    Form("party", "NAME [COUNT | *]", Role::Party(false)),
+    Form("server", "NAME [COUNT | *]", Role::Party(true)),
+    Form(
+        "lock",
+        "LOCK",
+        Role::Call(false, LockStep::Modes(ModeStep::Acquire(Mode::Exclusive))),
+    ),
+    Form(
+        "unlock",
+        "LOCK",
+        Role::Call(false, LockStep::Modes(ModeStep::Release(Mode::Exclusive))),
+    ),
+    Form(
+        "read",
+        "LOCK",
+        Role::Call(true, LockStep::Modes(ModeStep::Acquire(Mode::Shared))),
+    ),
+    Form(
+        "write",
+        "LOCK",
+        Role::Call(true, LockStep::Modes(ModeStep::Acquire(Mode::Exclusive))),
+    ),
+    Form(
+        "upgradable_read",
+        "LOCK",
+        Role::Call(true, LockStep::Modes(ModeStep::Acquire(Mode::Upgradable))),
+    ),
+    Form(
+        "unlock_read",
+        "LOCK",
+        Role::Call(true, LockStep::Modes(ModeStep::Release(Mode::Shared))),
+    ),
+    Form(
+        "unlock_write",
+        "LOCK",
+        Role::Call(true, LockStep::Modes(ModeStep::Release(Mode::Exclusive))),
+    ),
+    Form(
+        "unlock_upgradable",
+        "LOCK",
+        Role::Call(true, LockStep::Modes(ModeStep::Release(Mode::Upgradable))),
+    ),
+    Form(
+        "upgrade",
+        "LOCK",
+        Role::Call(
+            true,
+            LockStep::Modes(ModeStep::Change(Mode::Upgradable, Mode::Exclusive)),
+        ),
+    ),
+    Form(
+        "downgrade",
+        "LOCK",
+        Role::Call(
+            true,
+            LockStep::Modes(ModeStep::Change(Mode::Exclusive, Mode::Shared)),
+        ),
+    ),
+    Form(
+        "downgrade_to_upgradable",
+        "LOCK",
+        Role::Call(
+            true,
+            LockStep::Modes(ModeStep::Change(Mode::Exclusive, Mode::Upgradable)),
+        ),
+    ),
+    Form(
+        "downgrade_upgradable",
+        "LOCK",
+        Role::Call(
+            true,
+            LockStep::Modes(ModeStep::Change(Mode::Upgradable, Mode::Shared)),
+        ),
+    ),
+    Form("announce", "LOCK", Role::Call(true, LockStep::Announce)),
+    Form("withdraw", "LOCK", Role::Call(true, LockStep::Withdraw)),
+    Form("set", "FLAG", Role::Set),
+    Form("clear", "FLAG", Role::Clear),
+    Form("assert", "[not] FLAG", Role::Assert),
+    Form(
+        "wait",
+        "CONDVAR MUTEX [until [not] FLAG [or [not] FLAG]] [or timeout]",
+        Role::Wait,
+    ),
+    Form("notify_one", "CONDVAR", Role::NotifyOne),
+    Form("notify_all", "CONDVAR", Role::NotifyAll),
+    Form("start", "PARTY [*]", Role::Start),
+    Form("join", "PARTY [*]", Role::Join),
+    Form(
+        "repeat",
+        "[N | until [not] FLAG [or [not] FLAG]]",
+        Role::Repeat,
+    ),
+    Form("forever", "", Role::Forever),
+    Form("leave", "", Role::Leave),
+    Form("return", "", Role::Return),
+    Form("either", "", Role::Either),
+    Form("or", "", Role::Or),
+    Form("try", "CALL LOCK", Role::Try),
+    Form("if", "[not] FLAG", Role::If),
+    Form("else", "", Role::Else),
+    Form("end", "", Role::End),
+];

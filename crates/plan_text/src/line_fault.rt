@@ -1,0 +1,185 @@
+//! Why a line is bad.
+use crate::forms::Form;
+use crate::words::Words;
+use std::alloc::{AllocError, Global};
+use std::fmt;
+
+/// What a name is one of.
+#[derive(Clone, Copy)]
+pub(crate) enum NameKind {
+    Lock,
+    Flag,
+    Condvar,
+    Party,
+}
+
+/// Why a line is bad. Words are told by their numbers.
+#[derive(Clone, Copy)]
+pub(crate) enum LineFault {
+    /// The text has no line.
+    NothingSaid,
+    NotUtf8,
+    /// No line begins with the word, and no word that one begins with is like it.
+    UnknownWord(usize),
+    /// The same, but this word is like it.
+    Misspelt(usize, &'static str),
+    /// The fields after the word are not as its form has them.
+    Form(Form),
+    NoName(usize),
+    /// The word in the line of a lock, a flag or a condition variable is no `NAME[N]`.
+    NoRow(usize),
+    /// The word in a line of a party is no `X[i]` or `X[i+K]` below a party with a count.
+    NoIndex(usize),
+    /// The lock of this word has no limit.
+    NoLimit(usize),
+    NoCount(usize),
+    /// A line for all copies of the party with this name, which has none.
+    NoCopies(usize),
+    NoTurns(usize),
+    NotTried(usize),
+    /// Nothing of this kind has the name.
+    Unknown(NameKind, usize),
+    /// Something of this kind has the name.
+    Taken(NameKind, usize),
+    /// A party has the name of a copy.
+    TakenCopy(usize),
+    /// A line with this word is in a block. The block begins with the second word, in the line of this number.
+    InBlock(usize, &'static str, u64),
+    /// A line with this word is above the first party.
+    NoParty(usize),
+    /// A word of a block that does not fit the open blocks, by the text.
+    Unfit(&'static str),
+    TooDeep,
+    StartedTwice(usize),
+    CopiesStart,
+    LoopStarts,
+    /// A line starts or joins a party that has no line.
+    UnknownParty,
+    /// A line starts a party that never begins: only parties that never begin start it.
+    NeverBegins,
+    /// A line of a core is no place.
+    NoPlace,
+    /// A place of a core has this number in the place of the next one.
+    NoPlaceNumber(usize, u64),
+    /// A way of a core leads to no place.
+    NoSuchPlace,
+    /// A block has no end. It begins with this word, in the line of this number.
+    NoEnd(&'static str, u64),
+}
+
+/// Why a line does not go on: it is bad, or memory was refused.
+#[derive(Clone, Copy)]
+pub(crate) enum Refusal {
+    Bad(LineFault),
+    OutOfMemory,
+}
+
+impl From<AllocError> for Refusal {
+    fn from(_fault: AllocError) -> Refusal {
+        Refusal::OutOfMemory
+    }
+}
+
+impl LineFault {
+    /// Makes the reason's text.
+    pub(crate) fn why(self, alloc: Global, words: &Words) -> Result<String, AllocError> {
+        format!(in alloc; "{}", Why { fault: self, words })
+    }
+}
+
+/// A reason and the words that it names. It shows as the text that the program prints.
+#[derive(Clone, Copy)]
+struct Why<'a> {
+    fault: LineFault,
+    words: &'a Words,
+}
+
+impl fmt::Display for NameKind {
+    fn fmt<W: fmt::Write>(&self, f: &mut fmt::Formatter<W>) -> fmt::Result {
+        f.write_str(match self {
+            NameKind::Lock => "lock",
+            NameKind::Flag => "flag",
+            NameKind::Condvar => "condvar",
+            NameKind::Party => "party",
+        })
+    }
+}
+
+impl fmt::Display for Why<'_> {
+    fn fmt<W: fmt::Write>(&self, f: &mut fmt::Formatter<W>) -> fmt::Result {
+        let text = |word: usize| self.words.text(word);
+        match self.fault {
+            LineFault::NothingSaid => f.write_str("the plan says nothing"),
+            LineFault::NotUtf8 => f.write_str("not UTF-8"),
+            LineFault::UnknownWord(word) => write!(f, "unknown word '{}'", text(word)),
+            LineFault::Misspelt(word, near) => {
+                write!(f, "unknown word '{}'; did you mean '{near}'?", text(word))
+            }
+            LineFault::Form(Form(word, "", _)) => write!(f, "'{word}' stands alone in its line"),
+            LineFault::Form(Form(word, form, _)) => write!(f, "write '{word} {form}'"),
+            LineFault::NoName(word) => write!(
+                f,
+                "'{}' is no name; a name has letters, digits, '_', '-' and '.'",
+                text(word)
+            ),
+            LineFault::NoRow(word) => write!(
+                f,
+                "'{}' is no row; write 'NAME[N]' with N from 1 to 64",
+                text(word)
+            ),
+            LineFault::NoIndex(word) => write!(
+                f,
+                "'{}' is no index; write 'X[i]' or 'X[i+K]' below 'party NAME COUNT'",
+                text(word)
+            ),
+            LineFault::NoLimit(word) => {
+                write!(f, "'{}' needs a limit from 1 to 4294967295", text(word))
+            }
+            LineFault::NoCount(word) => {
+                write!(f, "'{}' is no count from 1 to 64, and no '*'", text(word))
+            }
+            LineFault::NoCopies(word) => {
+                let name = text(word);
+                write!(f, "no copies of '{name}'; write 'party {name} COUNT'")
+            }
+            LineFault::NoTurns(word) => {
+                write!(f, "'{}' is no number of turns from 2 to 64", text(word))
+            }
+            LineFault::NotTried(word) => write!(
+                f,
+                "no try of '{}'; a try is of lock, read, write, upgradable_read or upgrade",
+                text(word)
+            ),
+            LineFault::Unknown(kind, name) => write!(f, "no {kind} '{}'", text(name)),
+            LineFault::Taken(kind, name) => {
+                write!(f, "there is a {kind} '{}' already", text(name))
+            }
+            LineFault::TakenCopy(name) => write!(
+                f,
+                "there is a party with the name of a copy of '{}' already",
+                text(name)
+            ),
+            LineFault::InBlock(word, begin, line) => write!(
+                f,
+                "'{}' before the 'end' of '{begin}' of line {line}",
+                text(word)
+            ),
+            LineFault::NoParty(word) => write!(f, "'{}' above the first party", text(word)),
+            LineFault::Unfit(text) => f.write_str(text),
+            LineFault::TooDeep => f.write_str("more than 64 open blocks"),
+            LineFault::StartedTwice(name) => {
+                write!(f, "party '{}' is started already", text(name))
+            }
+            LineFault::CopiesStart => f.write_str("'start' in a party with copies"),
+            LineFault::LoopStarts => f.write_str("'start' in a loop"),
+            LineFault::UnknownParty => f.write_str("unknown party"),
+            LineFault::NeverBegins => f.write_str("never begins"),
+            LineFault::NoPlace => f.write_str("write 'NUMBER ACT -> PLACE [| PLACE] [line N]'"),
+            LineFault::NoPlaceNumber(word, next) => {
+                write!(f, "'{}' in the place of {next}", text(word))
+            }
+            LineFault::NoSuchPlace => f.write_str("a way leads to no place of its party"),
+            LineFault::NoEnd(word, line) => write!(f, "'{word}' of line {line} without 'end'"),
+        }
+    }
+}

@@ -1,0 +1,122 @@
+//! Why a line is not in the format.
+use crate::forms::{FORMS, Role};
+use crate::line_fault::LineFault;
+use crate::reading::{limit, parties, tried_call};
+use crate::words::Words;
+use script_text::unsigned;
+use std::alloc::{AllocError, Global};
+use strsim::levenshtein;
+
+/// The longest word for which a like one is looked for, in bytes. No word of the format has so many.
+const LONGEST: usize = 100;
+
+/// The least distance at which two words are not alike.
+const UNLIKE: usize = 3;
+
+/// Explains a line of these words that is not in the format.
+pub(crate) fn misread(
+    alloc: Global,
+    words: &Words,
+    fields: &[usize],
+) -> Result<LineFault, AllocError> {
+    let [word, rest @ ..] = fields else {
+        return Ok(LineFault::NothingSaid);
+    };
+    let Some(form) = words.form(*word) else {
+        return unknown_word(alloc, words, *word);
+    };
+    if let (Role::Try, [call, _, ..]) = (form.2, rest) {
+        if tried_call(words, *call).is_none() {
+            return match words.form(*call) {
+                Some(_) => Ok(LineFault::NotTried(*call)),
+                None => unknown_word(alloc, words, *call),
+            };
+        }
+    }
+    Ok(wrong_field(words, *word, form.2, rest).unwrap_or(LineFault::Form(form)))
+}
+
+/// Explains a word that no line begins with, by the first one that is most like it.
+fn unknown_word(alloc: Global, words: &Words, word: usize) -> Result<LineFault, AllocError> {
+    let text = words.text(word);
+    let mut fault = LineFault::UnknownWord(word);
+    if text.len() > LONGEST {
+        return Ok(fault);
+    }
+    let mut least = UNLIKE;
+    for form in &FORMS {
+        let distance = levenshtein(alloc, text, form.0)?;
+        if distance < least {
+            fault = LineFault::Misspelt(word, form.0);
+            least = distance;
+        }
+    }
+    Ok(fault)
+}
+
+/// Explains the first field after a word that is wrong by itself.
+fn wrong_field(words: &Words, word: usize, role: Role, fields: &[usize]) -> Option<LineFault> {
+    let [name, last @ ..] = fields else {
+        return None;
+    };
+    let (name, last) = (*name, last);
+    match role {
+        Role::Lock(_) | Role::Flag | Role::Condvar if !words.is_name(name) => {
+            Some(if has_bracket(words, name) {
+                LineFault::NoRow(name)
+            } else {
+                LineFault::NoName(name)
+            })
+        }
+        Role::Lock(kind) => {
+            let is_right = match last {
+                [] => false,
+                [number, ..] => limit(words.text(*number)).is_some(),
+            };
+            let has_limit = kind != lock_modes::Kind::Mutex;
+            (has_limit && !is_right).then_some(LineFault::NoLimit(word))
+        }
+        Role::Flag | Role::Condvar => None,
+        Role::Party(_) if !words.is_name(name) => Some(LineFault::NoName(name)),
+        Role::Party(_) => match last {
+            [number] if parties(words.text(*number)).is_none() => Some(LineFault::NoCount(*number)),
+            _ => None,
+        },
+        Role::Start | Role::Join => match last {
+            [star] if words.is(*star, "*") && words.is_name(name) => {
+                Some(LineFault::NoCopies(name))
+            }
+            _ => wrong_name(words, fields),
+        },
+        Role::Repeat if last.is_empty() && begins_by_digit(words.text(name)) => {
+            Some(match unsigned(words.text(name)) {
+                Some(turns) if 2 <= turns && turns <= 64 => {
+                    LineFault::Unfit("'repeat' without 'end'")
+                }
+                _ => LineFault::NoTurns(name),
+            })
+        }
+        _ => wrong_name(words, fields),
+    }
+}
+
+/// Explains the first of several fields that is no name.
+fn wrong_name(words: &Words, fields: &[usize]) -> Option<LineFault> {
+    let wrong = fields.iter().copied().find(|field| !words.is_name(*field))?;
+    Some(if has_bracket(words, wrong) {
+        LineFault::NoIndex(wrong)
+    } else {
+        LineFault::NoName(wrong)
+    })
+}
+
+fn begins_by_digit(text: &str) -> bool {
+    match text.as_bytes() {
+        [first, ..] => first.is_ascii_digit(),
+        [] => false,
+    }
+}
+
+fn has_bracket(words: &Words, word: usize) -> bool {
+    words.text(word).as_bytes().iter().any(|byte| *byte == b'[')
+}

@@ -1,0 +1,128 @@
+//! The blocks that are open.
+use crate::line_fault::{LineFault, Refusal};
+use std::alloc::{AllocError, Global};
+
+/// The most blocks that may be open.
+const DEEPEST: usize = 64;
+
+/// An open block, by its part that is open.
+#[derive(Clone, Copy)]
+struct OpenBlock {
+    part: OpenPart,
+    /// The word with which it begins, and the number of that line.
+    word: &'static str,
+    line: u64,
+}
+
+/// The part of a block that is open.
+#[derive(Clone, Copy, PartialEq, Eq)]
+pub(crate) enum OpenPart {
+    /// The first part of a `try` or an `if`.
+    First,
+    Else,
+    Loop,
+    Either,
+    Or,
+}
+
+/// The blocks that are open, the innermost last.
+#[derive(Drop)]
+pub(crate) struct OpenBlocks {
+    blocks: Vec<OpenBlock>,
+}
+
+impl OpenBlocks {
+    pub(crate) fn new(alloc: Global) -> OpenBlocks {
+        OpenBlocks {
+            blocks: Vec::new(alloc),
+        }
+    }
+
+    /// Returns the word and the line with which the innermost block begins.
+    pub(crate) fn innermost(&self) -> Option<(&'static str, u64)> {
+        let block = self.blocks.last()?;
+        Some((block.word, block.line))
+    }
+
+    pub(crate) fn has_loop(&self) -> bool {
+        self.blocks.iter().any(|block| block.part == OpenPart::Loop)
+    }
+
+    /// Refuses a line that would open too many blocks.
+    pub(crate) fn have_room(&self, blocks: usize) -> Result<(), Refusal> {
+        if self.blocks.len().saturating_add(blocks) > DEEPEST {
+            return Err(Refusal::Bad(LineFault::TooDeep));
+        }
+        Ok(())
+    }
+
+    /// Opens a block.
+    pub(crate) fn begin(
+        &mut self,
+        part: OpenPart,
+        word: &'static str,
+        line: u64,
+    ) -> Result<(), Refusal> {
+        self.have_room(1)?;
+        self.add(OpenBlock { part, word, line })?;
+        Ok(())
+    }
+
+    /// Turns the innermost block to its next part.
+    pub(crate) fn turn(&mut self, to: OpenPart) -> Result<(), Refusal> {
+        let fits = match self.blocks.last() {
+            None => false,
+            Some(block) => matches!(
+                (block.part, to),
+                (OpenPart::First, OpenPart::Else) | (OpenPart::Either | OpenPart::Or, OpenPart::Or)
+            ),
+        };
+        match self.blocks.last_mut() {
+            Some(block) if fits => {
+                block.part = to;
+                Ok(())
+            }
+            _ => Err(unfit(if to == OpenPart::Else {
+                "'else' without 'try' or 'if'"
+            } else {
+                "'or' without 'either'"
+            })),
+        }
+    }
+
+    /// Ends the innermost block.
+    pub(crate) fn end(&mut self) -> Result<(), Refusal> {
+        match self.blocks.pop() {
+            None => Err(unfit("'end' without a block")),
+            Some(block) if block.part == OpenPart::Either => Err(unfit("'end' before 'or'")),
+            Some(_) => Ok(()),
+        }
+    }
+
+    /// Refuses a `leave` outside a loop.
+    pub(crate) fn leave(&self) -> Result<(), Refusal> {
+        if self.has_loop() {
+            Ok(())
+        } else {
+            Err(unfit("'leave' outside a loop"))
+        }
+    }
+
+    /// Refuses a `return` outside a block.
+    pub(crate) fn leave_all(&self) -> Result<(), Refusal> {
+        if self.blocks.is_empty() {
+            Err(unfit("'return' outside a block"))
+        } else {
+            Ok(())
+        }
+    }
+
+    fn add(&mut self, block: OpenBlock) -> Result<(), AllocError> {
+        self.blocks.push(block)?;
+        Ok(())
+    }
+}
+
+fn unfit(why: &'static str) -> Refusal {
+    Refusal::Bad(LineFault::Unfit(why))
+}

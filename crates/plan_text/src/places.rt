@@ -1,0 +1,458 @@
+//! From the tree of a party to the places of its program.
+use crate::names::Names;
+use crate::said::{Look, Looks, Said, WaitLine};
+use crate::tree::Node;
+use lock_modes::{Kind, LockStep, Mode, ModeStep};
+use lock_plan::{Act, Block, PlanCall, PlanLock, ProgramPlace, Signal};
+use std::alloc::{AllocError, Global};
+
+/// The places of a program, and the number of the line of each.
+#[derive(Drop)]
+pub(crate) struct Places {
+    pub(crate) places: Vec<ProgramPlace>,
+    pub(crate) lines: Vec<u64>,
+}
+
+/// Where a label is.
+#[derive(Clone, Copy)]
+enum Target {
+    /// At no line so far.
+    Open,
+    At(usize),
+    /// Where another label is.
+    With(usize),
+}
+
+/// A block that is open.
+#[derive(Clone, Copy)]
+struct Open {
+    /// Where its next part begins, if it has another.
+    next_part: Option<usize>,
+    /// Where a party is after the block.
+    past: usize,
+    /// Where a party is at the end of the part: past the block, or at the begin of a loop.
+    end: usize,
+    is_loop: bool,
+}
+
+/// The elaboration of a party's tree. The places that it makes have labels in the place of the numbers of places.
+#[derive(Drop)]
+struct Elaboration<'a> {
+    names: &'a Names,
+    locks: &'a [PlanLock],
+    made: Places,
+    labels: Vec<Target>,
+    /// The label of the next place.
+    here: usize,
+    open: Vec<Open>,
+    /// The number of the line.
+    line: u64,
+}
+
+/// Makes the places of these lines, which fit each other.
+pub(crate) fn places_of(
+    alloc: Global,
+    names: &Names,
+    locks: &[PlanLock],
+    nodes: &[Node],
+) -> Result<Places, AllocError> {
+    let last_ors = last_ors(alloc, nodes)?;
+    let mut elaboration = Elaboration {
+        names,
+        locks,
+        made: Places {
+            places: Vec::new(alloc),
+            lines: Vec::new(alloc),
+        },
+        labels: Vec::new(alloc),
+        here: 0,
+        open: Vec::new(alloc),
+        line: 0,
+    };
+    match elaboration.add_all(nodes, last_ors.as_slice()) {
+        Ok(()) => Ok(elaboration.resolved()),
+        Err(fault) => Err(fault),
+    }
+}
+
+/// Returns for each line whether it is the last `or` of its block.
+fn last_ors(alloc: Global, nodes: &[Node]) -> Result<Vec<bool>, AllocError> {
+    let mut last = vec![in alloc; false; nodes.len()]?;
+    // For each open block its last `or` so far.
+    let mut open: Vec<Option<usize>> = Vec::new(alloc);
+    for (at, node) in nodes.iter().enumerate() {
+        if begins(node.said) {
+            open.push(None)?;
+        } else if let Said::Or = node.said {
+            if let Some(or) = open.last_mut() {
+                *or = Some(at);
+            }
+        } else if let Said::End = node.said {
+            if let Some(Some(or)) = open.pop() {
+                if let Some(is_last) = last.get_mut(or) {
+                    *is_last = true;
+                }
+            }
+        }
+    }
+    Ok(last)
+}
+
+/// Returns whether a line begins a block.
+fn begins(said: Said) -> bool {
+    matches!(
+        said,
+        Said::Try(..) | Said::If(_) | Said::Until(_) | Said::Repeat | Said::Forever | Said::Either
+    )
+}
+
+impl Elaboration<'_> {
+    /// Adds the places of all lines.
+    fn add_all(&mut self, nodes: &[Node], last_ors: &[bool]) -> Result<(), AllocError> {
+        self.here = self.label()?;
+        for (at, node) in nodes.iter().enumerate() {
+            self.line = node.line;
+            self.add(node.said, last_ors.get(at).copied().unwrap_or(false))?;
+        }
+        Ok(())
+    }
+
+    /// Adds the places of a line.
+    fn add(&mut self, said: Said, is_last_or: bool) -> Result<(), AllocError> {
+        match said {
+            Said::Lock(..) | Said::Flag(..) | Said::Condvar(_) | Said::Party(..) => Ok(()),
+            Said::Call(is_rwlock, step, lock) => {
+                let call = self.call(is_rwlock, step, lock);
+                self.step(Act::Call(call))
+            }
+            Said::Try(is_rwlock, step, lock) => {
+                let call = self.call(is_rwlock, step, lock);
+                self.branch(Act::Try(call), true)
+            }
+            Said::Set(flag) => {
+                let signal = self.set(flag, true);
+                self.step(Act::Signal(signal))
+            }
+            Said::Clear(flag) => {
+                let signal = self.set(flag, false);
+                self.step(Act::Signal(signal))
+            }
+            Said::Assert(look) => {
+                let (row, ended) = self.ended(look);
+                self.step(Act::Signal(Signal::Assert(row, ended)))
+            }
+            Said::NotifyOne(condvar) => {
+                self.step(Act::Signal(Signal::NotifyOne(self.condvar(condvar))))
+            }
+            Said::NotifyAll(condvar) => {
+                self.step(Act::Signal(Signal::NotifyAll(self.condvar(condvar))))
+            }
+            Said::Start(party) => self.step(Act::Signal(Signal::Start(self.party(party)))),
+            Said::Join(party) => self.step(Act::Signal(Signal::Join(self.party(party)))),
+            Said::Wait(wait) => self.wait(wait),
+            Said::If(look) => self.look(look),
+            Said::Until(looks) => self.begin_until(looks),
+            Said::Repeat => self.begin_repeat(),
+            Said::Forever => self.begin_forever(),
+            Said::Either => self.branch(Act::Choose(Block::Either), true),
+            Said::Or => self.or(is_last_or),
+            Said::Else => self.part(),
+            Said::End => self.end(),
+            Said::Leave => self.leave(),
+            Said::Return => self.leave_all(),
+        }
+    }
+
+    /// Adds a place with one place after it.
+    fn step(&mut self, act: Act) -> Result<(), AllocError> {
+        let next = self.label()?;
+        self.place(act, next, next)
+    }
+
+    /// Adds a place, and goes on at its `next`.
+    fn place(&mut self, act: Act, next: usize, other: usize) -> Result<(), AllocError> {
+        let number = self.made.places.len();
+        self.bind(self.here, Target::At(number));
+        self.made.places.push(ProgramPlace { act, next, other })?;
+        self.made.lines.push(self.line)?;
+        self.here = next;
+        Ok(())
+    }
+
+    /// Begins a block of two parts. The act's first way leads into the first part, or its second way.
+    fn branch(&mut self, act: Act, is_first: bool) -> Result<(), AllocError> {
+        let inside = self.label()?;
+        let other = self.label()?;
+        let past = self.label()?;
+        self.two_ways(act, inside, other, is_first)?;
+        self.open.push(Open {
+            next_part: Some(other),
+            past,
+            end: past,
+            is_loop: false,
+        })?;
+        Ok(())
+    }
+
+    /// Adds a place with a way inside, where it goes on, and a way past that, of which either may be the first.
+    fn two_ways(
+        &mut self,
+        act: Act,
+        inside: usize,
+        past: usize,
+        is_first: bool,
+    ) -> Result<(), AllocError> {
+        if is_first {
+            self.place(act, inside, past)?;
+        } else {
+            self.place(act, past, inside)?;
+        }
+        self.here = inside;
+        Ok(())
+    }
+
+    /// Begins a block of which the first part is for this value of a flag.
+    fn look(&mut self, look: Look) -> Result<(), AllocError> {
+        let (row, ended) = self.ended(look);
+        self.branch(Act::Choose(Block::If(row)), ended)
+    }
+
+    /// Opens a loop that begins here, and returns where a party is after it.
+    fn open_loop(&mut self) -> Result<usize, AllocError> {
+        let past = self.label()?;
+        self.open.push(Open {
+            next_part: None,
+            past,
+            end: self.here,
+            is_loop: true,
+        })?;
+        Ok(past)
+    }
+
+    /// Begins a loop that a party leaves by a choice.
+    fn begin_repeat(&mut self) -> Result<(), AllocError> {
+        let past = self.open_loop()?;
+        let inside = self.label()?;
+        self.place(Act::Choose(Block::Repeat), inside, past)
+    }
+
+    /// Begins a loop that a party leaves by a `leave` or a `return` alone.
+    fn begin_forever(&mut self) -> Result<(), AllocError> {
+        self.open_loop()?;
+        self.step(Act::Choose(Block::Repeat))
+    }
+
+    /// Begins a loop that a party leaves by a look at one flag or two.
+    fn begin_until(&mut self, looks: Looks) -> Result<(), AllocError> {
+        let past = self.open_loop()?;
+        self.leave_by(looks.first, past)?;
+        match looks.second {
+            Some(look) => self.leave_by(look, past),
+            None => Ok(()),
+        }
+    }
+
+    /// Adds a look that leads past a loop where the flag has the value.
+    fn leave_by(&mut self, look: Look, past: usize) -> Result<(), AllocError> {
+        let (row, ended) = self.ended(look);
+        let inside = self.label()?;
+        self.two_ways(Act::Choose(Block::If(row)), inside, past, !ended)
+    }
+
+    /// Adds the places of a wait: the release of the mutex and the sleep, and then the call that acquires the mutex again.
+    fn wait(&mut self, wait: WaitLine) -> Result<(), AllocError> {
+        let condvar = self.condvar(wait.condvar);
+        let unlock = self.mutex_call(ModeStep::Release(Mode::Exclusive), wait.mutex);
+        let lock = self.mutex_call(ModeStep::Acquire(Mode::Exclusive), wait.mutex);
+        if let Some(looks) = wait.until {
+            self.begin_until(looks)?;
+        }
+        self.step(unlock)?;
+        if !wait.is_timed {
+            self.step(Act::Signal(Signal::Sleep(condvar)))?;
+            self.step(lock)?;
+        } else if wait.until.is_none() {
+            self.step(Act::Choose(Block::TimedSleep(condvar)))?;
+            self.step(lock)?;
+        } else {
+            self.branch(Act::Choose(Block::TimedSleep(condvar)), true)?;
+            self.step(lock)?;
+            self.part()?;
+            self.step(lock)?;
+            self.leave()?;
+            self.end()?;
+        }
+        match wait.until {
+            Some(_) => self.end(),
+            None => Ok(()),
+        }
+    }
+
+    /// Turns to the next part of the innermost block.
+    fn part(&mut self) -> Result<(), AllocError> {
+        let Some(block) = self.open.last_mut() else {
+            return Ok(());
+        };
+        let (next_part, end) = (block.next_part.take(), block.end);
+        self.bind(self.here, Target::With(end));
+        self.here = match next_part {
+            Some(label) => label,
+            None => self.label()?,
+        };
+        Ok(())
+    }
+
+    /// Turns to the next part of an `either`. Before each part but the last, the party chooses again.
+    fn or(&mut self, is_last: bool) -> Result<(), AllocError> {
+        self.part()?;
+        if is_last {
+            return Ok(());
+        }
+        let inside = self.label()?;
+        let other = self.label()?;
+        self.place(Act::Choose(Block::Either), inside, other)?;
+        if let Some(block) = self.open.last_mut() {
+            block.next_part = Some(other);
+        }
+        Ok(())
+    }
+
+    /// Ends the innermost block.
+    fn end(&mut self) -> Result<(), AllocError> {
+        let Some(block) = self.open.pop() else {
+            return Ok(());
+        };
+        self.bind(self.here, Target::With(block.end));
+        if let Some(label) = block.next_part {
+            self.bind(label, Target::With(block.past));
+        }
+        self.here = block.past;
+        Ok(())
+    }
+
+    /// Leads past the innermost loop.
+    fn leave(&mut self) -> Result<(), AllocError> {
+        let past = self
+            .open
+            .iter()
+            .rev()
+            .find(|block| block.is_loop)
+            .map(|block| block.past);
+        if let Some(past) = past {
+            self.bind(self.here, Target::With(past));
+        }
+        self.here = self.label()?;
+        Ok(())
+    }
+
+    /// Leads to the end of the program. A label that is nowhere is there.
+    fn leave_all(&mut self) -> Result<(), AllocError> {
+        self.here = self.label()?;
+        Ok(())
+    }
+
+    /// Makes a label.
+    fn label(&mut self) -> Result<usize, AllocError> {
+        let label = self.labels.len();
+        self.labels.push(Target::Open)?;
+        Ok(label)
+    }
+
+    fn bind(&mut self, label: usize, target: Target) {
+        if let Some(known) = self.labels.get_mut(label) {
+            *known = target;
+        }
+    }
+
+    /// Puts the numbers of places in the place of labels.
+    fn resolved(self) -> Places {
+        let Elaboration {
+            mut made,
+            labels,
+            ..
+        } = self;
+        let end = made.places.len();
+        for at in 0..end {
+            if let Some(place) = made.places.get_mut(at) {
+                place.next = place_of(labels.as_slice(), place.next, end);
+                place.other = place_of(labels.as_slice(), place.other, end);
+            }
+        }
+        made
+    }
+
+    /// Returns a call. Where its word is of another kind of lock, so is its step.
+    fn call(&self, is_rwlock: bool, step: LockStep, name: usize) -> PlanCall {
+        let lock = self.names.locks.get_index_of(&name).unwrap_or(0);
+        let is_right = self.kind(lock).is_rwlock() == is_rwlock;
+        PlanCall {
+            lock,
+            step: if is_right { step } else { no_step() },
+        }
+    }
+
+    /// Returns a call of a wait. Where its lock is no mutex, no lock has its step.
+    fn mutex_call(&self, step: ModeStep, name: usize) -> Act {
+        let lock = self.names.locks.get_index_of(&name).unwrap_or(0);
+        let is_mutex = self.kind(lock) == Kind::Mutex;
+        Act::Call(PlanCall {
+            lock,
+            step: if is_mutex {
+                LockStep::Modes(step)
+            } else {
+                no_step()
+            },
+        })
+    }
+
+    fn kind(&self, lock: usize) -> Kind {
+        match self.locks.get(lock) {
+            Some(lock) => lock.kind,
+            None => Kind::Mutex,
+        }
+    }
+
+    fn condvar(&self, name: usize) -> usize {
+        self.names.condvars.get_index_of(&name).unwrap_or(0)
+    }
+
+    fn party(&self, name: usize) -> usize {
+        self.names.parties.get_index_of(&name).unwrap_or(0)
+    }
+
+    /// Returns the row of a flag, and whether it has ended where the flag has the value. A row begins with the flag's first
+    /// value, so that of a flag that is true at first ends where the flag is false.
+    fn ended(&self, look: Look) -> (usize, bool) {
+        let flag = self.names.flags.get_index_of(&look.flag).unwrap_or(0);
+        let row = self.names.parties.len().saturating_add(flag);
+        (row, look.value != self.names.is_true_first(flag))
+    }
+
+    /// Returns the signal that gives a flag this value.
+    fn set(&self, flag: usize, value: bool) -> Signal {
+        let (row, ended) = self.ended(Look { value, flag });
+        if ended {
+            Signal::Start(row)
+        } else {
+            Signal::Clear(row)
+        }
+    }
+}
+
+/// Returns the place of a label. One that is at no line is at the end.
+fn place_of(labels: &[Target], label: usize, end: usize) -> usize {
+    let mut label = label;
+    for _hop in 0..labels.len() {
+        match labels.get(label) {
+            Some(Target::At(place)) => return *place,
+            Some(Target::With(other)) => label = *other,
+            Some(Target::Open) | None => return end,
+        }
+    }
+    end
+}
+
+/// A step that no lock has.
+fn no_step() -> LockStep {
+    LockStep::Modes(ModeStep::Change(Mode::Exclusive, Mode::Exclusive))
+}

@@ -1,0 +1,166 @@
+//! The programs of a plan's rows, and the lines of their places.
+use crate::alike::{Rows, alike_rows, is_copy, rows_of};
+use crate::places::places_of;
+use crate::tree::{Group, Tree};
+use lock_plan::{Act, ProgramPlace, Signal};
+use std::alloc::{AllocError, Global};
+
+/// The programs of the rows: the parties, and then the flags. Parties of one line share a program.
+#[derive(Drop)]
+pub struct Programs {
+    programs: Vec<Vec<ProgramPlace>>,
+    /// The number of the line of each place of each program.
+    lines: Vec<Vec<u64>>,
+    /// The number of each row's program.
+    numbers: Vec<usize>,
+}
+
+impl Programs {
+    ghost use Rattle.std.specs.Prelude.{map, IfOk};
+    ghost use Rattle.lock_plan.specs.Copies.{AreAlike};
+
+    pub(crate) fn new(alloc: Global) -> Programs {
+        Programs {
+            programs: Vec::new(alloc),
+            lines: Vec::new(alloc),
+            numbers: Vec::new(alloc),
+        }
+    }
+
+    /// Elaborates a tree into the programs of all rows.
+    pub(crate) fn add_all(&mut self, alloc: Global, tree: &Tree) -> Result<(), AllocError> {
+        for group in &tree.groups {
+            let nodes = group.nodes.as_slice();
+            let places = places_of(alloc, &tree.names, tree.locks.as_slice(), nodes)?;
+            let (places, lines) = (places.places.as_slice(), places.lines.as_slice());
+            self.add_parties(alloc, tree, group, places, lines)?;
+        }
+        self.add_flags(alloc, tree.names.flags.len())
+    }
+
+    /// Adds the rows of so many flags, after those of the parties.
+    pub(crate) fn add_flags(&mut self, alloc: Global, count: usize) -> Result<(), AllocError> {
+        for _flag in 0..count {
+            let number = self.add_started(alloc, &[], &[])?;
+            self.numbers.push(number)?;
+        }
+        Ok(())
+    }
+
+    /// Adds so many parties, which share a program.
+    pub(crate) fn add_shared(
+        &mut self,
+        places: Vec<ProgramPlace>,
+        lines: Vec<u64>,
+        parties: usize,
+    ) -> Result<(), AllocError> {
+        let number = self.programs.len();
+        self.programs.push(places)?;
+        self.lines.push(lines)?;
+        for _party in 0..parties {
+            self.numbers.push(number)?;
+        }
+        Ok(())
+    }
+
+    /// Adds the parties of a line, with these places.
+    fn add_parties(
+        &mut self,
+        alloc: Global,
+        tree: &Tree,
+        group: &Group,
+        places: &[ProgramPlace],
+        lines: &[u64],
+    ) -> Result<(), AllocError> {
+        let shared = self.programs.len();
+        self.programs.push(Vec::from_slice(alloc, places)?)?;
+        self.lines.push(Vec::from_slice(alloc, lines)?)?;
+        for party in 0..group.count {
+            let number = if tree.is_started(group.first.saturating_add(party)) {
+                self.add_started(alloc, places, lines)?
+            } else {
+                shared
+            };
+            self.numbers.push(number)?;
+        }
+        Ok(())
+    }
+
+    /// Adds a program that begins where the row waits to be started: a party for its start, and a flag to be set.
+    fn add_started(
+        &mut self,
+        alloc: Global,
+        places: &[ProgramPlace],
+        lines: &[u64],
+    ) -> Result<usize, AllocError> {
+        let number = self.programs.len();
+        self.programs.push(started(alloc, places)?)?;
+        let mut numbers = vec![in alloc; lines.first().copied().unwrap_or(0)]?;
+        numbers.extend_from_slice(lines)?;
+        self.lines.push(numbers)?;
+        Ok(number)
+    }
+
+    /// Returns how many rows there are.
+    pub fn rows(&self) -> usize {
+        self.numbers.len()
+    }
+
+    /// Returns the places of a row.
+    pub fn places(&self, row: usize) -> &[ProgramPlace] {
+        let number = self.numbers.get(row).copied().unwrap_or(0);
+        match self.programs.get(number) {
+            Some(program) => program.as_slice(),
+            None => &[],
+        }
+    }
+
+    /// Returns the number of the line of a row's place, or 0 past the last.
+    pub fn line(&self, row: usize, place: usize) -> u64 {
+        let number = self.numbers.get(row).copied().unwrap_or(0);
+        match self.lines.get(number) {
+            Some(lines) => lines.get(place).copied().unwrap_or(0),
+            None => 0,
+        }
+    }
+
+    /// Returns whether a row is a copy of the row before it.
+    pub(crate) fn is_copy(&self, servers: &[bool], row: usize) -> bool {
+        is_copy(self.numbers.as_slice(), servers, row)
+    }
+
+    /// Makes the program of each row.
+    pub fn all(&self, alloc: Global) -> Result<Vec<Vec<ProgramPlace>>, AllocError> {
+        rows_of(alloc, self.programs.as_slice(), self.numbers.as_slice())
+    }
+
+    /// Makes the program of each row, and finds the copies.
+    pub(crate) fn alike(&self, alloc: Global, servers: &[bool]) -> Result<Rows, AllocError>
+        ensures { IfOk result (λ rows. AreAlike (map (λ v. v.items) rows.0.items) servers.now rows.1.items) }
+    {
+        alike_rows(
+            alloc,
+            self.programs.as_slice(),
+            self.numbers.as_slice(),
+            servers,
+        )
+    }
+}
+
+/// Makes the program of a party that is started, with these places after the one where it waits for its start.
+fn started(alloc: Global, places: &[ProgramPlace]) -> Result<Vec<ProgramPlace>, AllocError> {
+    let idle = ProgramPlace {
+        act: Act::Signal(Signal::Idle),
+        next: 1,
+        other: 1,
+    };
+    let mut program = vec![in alloc; idle]?;
+    for place in places {
+        program.push(ProgramPlace {
+            act: place.act,
+            next: place.next.saturating_add(1),
+            other: place.other.saturating_add(1),
+        })?;
+    }
+    Ok(program)
+}

@@ -1,0 +1,382 @@
+//! The tree of a text: what it declares, and the lines of its parties.
+use crate::forms::{Form, Role};
+use crate::line_fault::{LineFault, NameKind, Refusal};
+use crate::names::{NameSet, Names};
+use crate::open_block::{OpenBlocks, OpenPart};
+use crate::said::{Looks, Parties, Said, WaitLine};
+use indexmap::IndexSet;
+use lock_plan::PlanLock;
+use std::alloc::{AllocError, Global};
+
+/// A line of a party: its number, and what it says.
+#[derive(Clone, Copy)]
+pub(crate) struct Node {
+    pub(crate) line: u64,
+    pub(crate) said: Said,
+}
+
+/// The parties of one line, which have the same lines.
+#[derive(Drop)]
+pub(crate) struct Group {
+    /// The first party, and how many there are.
+    pub(crate) first: usize,
+    pub(crate) count: usize,
+    pub(crate) nodes: Vec<Node>,
+}
+
+/// The tree of the lines so far.
+#[derive(Drop)]
+pub(crate) struct Tree {
+    pub(crate) names: Names,
+    pub(crate) locks: Vec<PlanLock>,
+    pub(crate) groups: Vec<Group>,
+    /// Whether each party is a server.
+    pub(crate) servers: Vec<bool>,
+    /// The names after `start` and `join`, each once, and the first line with each of them.
+    pub(crate) mentions: NameSet,
+    pub(crate) mention_lines: Vec<u64>,
+    /// The names after `start`, the party whose line starts each of them, and that line.
+    pub(crate) started: NameSet,
+    pub(crate) starters: Vec<usize>,
+    pub(crate) start_lines: Vec<u64>,
+    open: OpenBlocks,
+}
+
+impl Tree {
+    /// Makes the tree of no lines.
+    pub(crate) fn new(alloc: Global, names: Names) -> Tree {
+        Tree {
+            names,
+            locks: Vec::new(alloc),
+            groups: Vec::new(alloc),
+            servers: Vec::new(alloc),
+            mentions: IndexSet::new(alloc),
+            mention_lines: Vec::new(alloc),
+            started: IndexSet::new(alloc),
+            starters: Vec::new(alloc),
+            start_lines: Vec::new(alloc),
+            open: OpenBlocks::new(alloc),
+        }
+    }
+
+    /// Explains the end of the text if a block is open there, or if no line said anything.
+    pub(crate) fn end_fault(&self, is_empty: bool) -> Option<LineFault> {
+        match self.open.innermost() {
+            Some((word, line)) => Some(LineFault::NoEnd(word, line)),
+            None if is_empty => Some(LineFault::NothingSaid),
+            None => None,
+        }
+    }
+
+    /// Adds a line with this number, of which the first word has this number and form.
+    pub(crate) fn add(
+        &mut self,
+        alloc: Global,
+        line: u64,
+        word: usize,
+        form: Form,
+        said: Said,
+    ) -> Result<(), Refusal> {
+        match said {
+            Said::Lock(..) | Said::Flag(..) | Said::Condvar(_) => {
+                self.outside_blocks(word)?;
+                self.declare(said)
+            }
+            Said::Party(is_server, parties, name) => {
+                self.outside_blocks(word)?;
+                self.add_parties(alloc, is_server, parties, name)
+            }
+            _ => {
+                let Some(group) = self.groups.last() else {
+                    return Err(Refusal::Bad(LineFault::NoParty(word)));
+                };
+                let (first, count) = (group.first, group.count);
+                self.known_names(said)?;
+                self.mention(line, first, count, said)?;
+                self.turn_blocks(line, form, said)?;
+                self.push(Node { line, said })?;
+                Ok(())
+            }
+        }
+    }
+
+    /// Returns whether a line starts a party.
+    pub(crate) fn is_started(&self, party: usize) -> bool {
+        match self.names.parties.get_index(party) {
+            Some(name) => self.started.contains(name),
+            None => false,
+        }
+    }
+
+    /// Begins the lines of a party whose own line is bad.
+    pub(crate) fn begin_unnamed(&mut self, alloc: Global) -> Result<(), AllocError> {
+        self.open = OpenBlocks::new(alloc);
+        self.groups.push(Group {
+            first: 0,
+            count: 1,
+            nodes: Vec::new(alloc),
+        })?;
+        Ok(())
+    }
+
+    /// Turns to the blocks that are open after a bad line, by its form, if the line is bad for another reason than these blocks.
+    pub(crate) fn turn_misread(
+        &mut self,
+        line: u64,
+        form: Form,
+        fault: LineFault,
+    ) -> Result<(), AllocError> {
+        if matches!(
+            fault,
+            LineFault::Unfit(_) | LineFault::TooDeep | LineFault::NoParty(_)
+        ) {
+            return Ok(());
+        }
+        let turned = match form.2 {
+            Role::Try | Role::If => self.open.begin(OpenPart::First, form.0, line),
+            Role::Repeat | Role::Forever => self.open.begin(OpenPart::Loop, form.0, line),
+            Role::Either => self.open.begin(OpenPart::Either, form.0, line),
+            Role::Or => self.open.turn(OpenPart::Or),
+            Role::Else => self.open.turn(OpenPart::Else),
+            Role::End => self.open.end(),
+            _ => Ok(()),
+        };
+        match turned {
+            Err(Refusal::OutOfMemory) => Err(AllocError),
+            _ => Ok(()),
+        }
+    }
+
+    fn push(&mut self, node: Node) -> Result<(), AllocError> {
+        if let Some(group) = self.groups.last_mut() {
+            group.nodes.push(node)?;
+        }
+        Ok(())
+    }
+
+    /// Refuses a line in a block.
+    fn outside_blocks(&self, word: usize) -> Result<(), Refusal> {
+        match self.open.innermost() {
+            None => Ok(()),
+            Some((begin, line)) => Err(Refusal::Bad(LineFault::InBlock(word, begin, line))),
+        }
+    }
+
+    /// Adds a lock, a flag or a condition variable, unless its name is there.
+    fn declare(&mut self, said: Said) -> Result<(), Refusal> {
+        match said {
+            Said::Lock(lock, name) => {
+                add_name(&mut self.names.locks, NameKind::Lock, name)?;
+                add(&mut self.locks, lock)?;
+            }
+            Said::Flag(value, name) => {
+                add_name(&mut self.names.flags, NameKind::Flag, name)?;
+                add(&mut self.names.first_values, value)?;
+            }
+            Said::Condvar(name) => {
+                add_name(&mut self.names.condvars, NameKind::Condvar, name)?;
+            }
+            _ => {}
+        }
+        Ok(())
+    }
+
+    /// Adds the parties of a line, unless one of their names is there.
+    fn add_parties(
+        &mut self,
+        alloc: Global,
+        is_server: bool,
+        parties: Parties,
+        name: usize,
+    ) -> Result<(), Refusal> {
+        let first = self.names.parties.len();
+        match parties {
+            Parties::One => {
+                add_name(&mut self.names.parties, NameKind::Party, name)?;
+            }
+            Parties::Any => {
+                let any = self.names.words.any(alloc, name)?;
+                self.add_copy(name, any)?;
+            }
+            Parties::Copies(count) => {
+                let text = String::from_str(alloc, self.names.words.text(name))?;
+                for copy in 0..count {
+                    let copied = self
+                        .names
+                        .words
+                        .copy(alloc, text.as_str(), copy.saturating_add(1))?;
+                    self.add_copy(name, copied)?;
+                }
+            }
+        }
+        let count = self.names.parties.len().saturating_sub(first);
+        for _party in 0..count {
+            add(&mut self.servers, is_server)?;
+        }
+        let nodes = Vec::new(alloc);
+        add(
+            &mut self.groups,
+            Group {
+                first,
+                count,
+                nodes,
+            },
+        )?;
+        Ok(())
+    }
+
+    /// Adds a party of a core with this name, unless the name is there.
+    pub(crate) fn add_named(&mut self, name: usize, is_server: bool) -> Result<(), Refusal> {
+        if !self.names.words.is_core_name(name) {
+            return Err(Refusal::Bad(LineFault::NoName(name)));
+        }
+        add_name(&mut self.names.parties, NameKind::Party, name)?;
+        add(&mut self.servers, is_server)?;
+        Ok(())
+    }
+
+    /// Adds a party of the line with this name, unless its own name is there.
+    fn add_copy(&mut self, name: usize, copied: usize) -> Result<(), Refusal> {
+        if is_new(&mut self.names.parties, copied)? {
+            Ok(())
+        } else {
+            Err(Refusal::Bad(LineFault::TakenCopy(name)))
+        }
+    }
+
+    /// Refuses a line of a party with a name that nothing above has.
+    fn known_names(&self, said: Said) -> Result<(), Refusal> {
+        match said {
+            Said::Call(_, _, lock) | Said::Try(_, _, lock) => self.known(NameKind::Lock, lock),
+            Said::Set(flag) | Said::Clear(flag) => self.known(NameKind::Flag, flag),
+            Said::If(look) | Said::Assert(look) => self.known(NameKind::Flag, look.flag),
+            Said::NotifyOne(condvar) | Said::NotifyAll(condvar) => {
+                self.known(NameKind::Condvar, condvar)
+            }
+            Said::Until(looks) => self.known_flags(looks),
+            Said::Wait(wait) => {
+                self.known(NameKind::Condvar, wait.condvar)?;
+                self.known(NameKind::Lock, wait.mutex)?;
+                match wait.until {
+                    Some(looks) => self.known_flags(looks),
+                    None => Ok(()),
+                }
+            }
+            _ => Ok(()),
+        }
+    }
+
+    fn known_flags(&self, looks: Looks) -> Result<(), Refusal> {
+        self.known(NameKind::Flag, looks.first.flag)?;
+        match looks.second {
+            Some(look) => self.known(NameKind::Flag, look.flag),
+            None => Ok(()),
+        }
+    }
+
+    fn known(&self, kind: NameKind, name: usize) -> Result<(), Refusal> {
+        let names = match kind {
+            NameKind::Lock => &self.names.locks,
+            NameKind::Flag => &self.names.flags,
+            NameKind::Condvar => &self.names.condvars,
+            NameKind::Party => &self.names.parties,
+        };
+        if names.contains(&name) {
+            Ok(())
+        } else {
+            Err(Refusal::Bad(LineFault::Unknown(kind, name)))
+        }
+    }
+
+    /// Notes the name of a `start` or a `join`, in the lines of these parties.
+    fn mention(
+        &mut self,
+        line: u64,
+        first: usize,
+        count: usize,
+        said: Said,
+    ) -> Result<(), Refusal> {
+        let name = match said {
+            Said::Start(name) => {
+                self.start(line, first, count, name)?;
+                name
+            }
+            Said::Join(name) => name,
+            _ => return Ok(()),
+        };
+        if is_new(&mut self.mentions, name)? {
+            add(&mut self.mention_lines, line)?;
+        }
+        Ok(())
+    }
+
+    /// Notes the name of a `start`.
+    fn start(&mut self, line: u64, first: usize, count: usize, name: usize) -> Result<(), Refusal> {
+        if self.started.contains(&name) {
+            return Err(Refusal::Bad(LineFault::StartedTwice(name)));
+        }
+        if self.open.has_loop() {
+            return Err(Refusal::Bad(LineFault::LoopStarts));
+        }
+        if count != 1 {
+            return Err(Refusal::Bad(LineFault::CopiesStart));
+        }
+        is_new(&mut self.started, name)?;
+        add(&mut self.starters, first)?;
+        add(&mut self.start_lines, line)?;
+        Ok(())
+    }
+
+    /// Turns to the blocks that are open after a line of a party.
+    fn turn_blocks(&mut self, line: u64, form: Form, said: Said) -> Result<(), Refusal> {
+        match said {
+            Said::Try(..) | Said::If(_) => self.open.begin(OpenPart::First, form.0, line),
+            Said::Repeat | Said::Forever => self.open.begin(OpenPart::Loop, form.0, line),
+            Said::Until(looks) => {
+                self.open.have_room(depth(looks))?;
+                self.open.begin(OpenPart::Loop, form.0, line)
+            }
+            Said::Wait(wait) => self.open.have_room(wait_depth(wait)),
+            Said::Either => self.open.begin(OpenPart::Either, form.0, line),
+            Said::Or => self.open.turn(OpenPart::Or),
+            Said::Else => self.open.turn(OpenPart::Else),
+            Said::End => self.open.end(),
+            Said::Leave => self.open.leave(),
+            Said::Return => self.open.leave_all(),
+            _ => Ok(()),
+        }
+    }
+}
+
+/// Returns as how many blocks a loop with these looks counts where it begins.
+fn depth(looks: Looks) -> usize {
+    if looks.second.is_some() { 2 } else { 1 }
+}
+
+/// Returns as how many blocks a wait counts.
+fn wait_depth(wait: WaitLine) -> usize {
+    match wait.until {
+        None => usize::from(wait.is_timed),
+        Some(looks) => depth(looks).max(1 + usize::from(wait.is_timed)),
+    }
+}
+
+/// Adds a name, unless it is there.
+fn add_name(names: &mut NameSet, kind: NameKind, name: usize) -> Result<(), Refusal> {
+    if is_new(names, name)? {
+        Ok(())
+    } else {
+        Err(Refusal::Bad(LineFault::Taken(kind, name)))
+    }
+}
+
+/// Adds a name, and returns whether it is new.
+fn is_new(names: &mut NameSet, name: usize) -> Result<bool, AllocError> {
+    let (_, is_new) = names.insert_full(name)?;
+    Ok(is_new)
+}
+
+fn add<T: Drop>(list: &mut Vec<T>, item: T) -> Result<(), AllocError> {
+    list.push(item)?;
+    Ok(())
+}

@@ -1,0 +1,81 @@
+"""The core of a plan, as `lockexplore core` prints it: the locks, the flags, the condition variables, and a line for each place of each party.
+
+docs/PLANS.md has the format.
+"""
+import itertools
+
+from plan_text import ACQUIRED, CHANGED, RELEASED
+
+SECOND_WAYS = {"try", "repeat", "forever", "either", "or", "if", "until", "timed sleep"}
+
+
+def core_text(plan):
+    """The text of the core of a plan without a fault."""
+    texts = [*map(lock_text, plan.locks.items()), *(f"flag {it}{' true' * value}\n" for it, value in plan.flags.items())]
+    texts += [f"condvar {it}\n" for it in plan.condvars]
+    started = {it.name for it in plan.mentions if it.word == "start"}
+    for (_, alone), run in itertools.groupby(plan.parties, lambda it: (it.first, it.name in started and it.name)):
+        texts.append(party_text([*run], bool(alone)))
+    return "".join(texts)
+
+
+def lock_text(item):
+    """The line of a lock."""
+    name, lock = item
+    words = [lock.kind, name, *([] if lock.kind == "mutex" else [str(lock.limit)]), *["bar"] * lock.has_bar, *["fair"] * lock.is_fair]
+    return f"{' '.join(words)}\n"
+
+
+def party_text(copies, is_started):
+    """The lines of parties that share their places. One that is started idles at a place of its own before them."""
+    party = copies[0]
+    head = f"\n{'server' if party.is_server else 'party'} {' '.join(it.name for it in copies)}\n"
+    first = party.lines[0].number if party.lines else 0
+    before = [("idle", [2], first)] if is_started else []
+    rows = before + [(act_of(it.line), [way + 1 + is_started for way in ways_of(it)], it.line.number) for it in party.program]
+    return head + "".join(place_text(number, len(rows), *row) for number, row in enumerate(rows, 1))
+
+
+def place_text(number, count, act, ways, line):
+    """The line of a place with this number, of so many."""
+    text = f"{f'{number:4}  {act}':40} -> {' | '.join(str(it) if it <= count else 'end' for it in ways)}"
+    return f"{text:54} line {line}\n"
+
+
+def ways_of(place):
+    """The places after a place, of a look first the one for a true flag."""
+    word, other = place.line.word, place.next if place.other is None else place.other
+    if word not in SECOND_WAYS:
+        return [place.next]
+    is_swapped = word == "if" and not place.line.value or word == "until" and place.line.value
+    return [other, place.next] if is_swapped else [place.next, other]
+
+
+def act_of(line):
+    """The act of a line of a party."""
+    match line.word:
+        case "call" | "wait":
+            return call_text(line.call)
+        case "try":
+            return f"try {call_text(line.call)}"
+        case "if" | "until":
+            return f"if {line.name}"
+        case "repeat" | "forever":
+            return "repeat"
+        case "either" | "or":
+            return "either"
+        case "timed sleep":
+            return f"sleep {line.name} or timeout"
+        case "assert":
+            return f"assert {'' if line.value else 'not '}{line.name}"
+    return f"{line.word} {line.name}"
+
+
+def call_text(call):
+    """The act of a call."""
+    word, lock = call
+    if word in CHANGED:
+        return f"change {lock} {' '.join(CHANGED[word])}"
+    if word in ("announce", "withdraw"):
+        return f"{word} {lock}"
+    return f"acquire {lock} {ACQUIRED[word]}" if word in ACQUIRED else f"release {lock} {RELEASED[word]}"
