@@ -31,6 +31,7 @@ const MADE: &str =
     "not proved as it is: bin/build writes the sum of the sources here after a proof.";
 
 /// What the words after the program's name ask for.
+#[derive(Clone, Copy, PartialEq)]
 enum Request {
     Replay(Which),
     Help,

@@ -1,15 +1,20 @@
-//! The machine that the program's words choose.
-use crate::machine;
+//! What the program's words ask for.
+use crate::{Request, asked};
 use lock_script::Which;
 use std::env::FillError;
 use std::rt::Env;
 use std::test::Fail;
 
-/// The words after the program's name, and the machine that they choose.
-const CHOICES: [(&[&[u8]], Option<Which>); 11] = [
-    (&[b"table"], Some(Which::Table)),
-    (&[b"word"], Some(Which::Word)),
-    (&[b"steps"], Some(Which::Steps)),
+/// The words after the program's name, and what they ask for: `None` stands for the usage line.
+const REQUESTS: [(&[&[u8]], Option<Request>); 16] = [
+    (&[b"table"], Some(Request::Replay(Which::Table))),
+    (&[b"word"], Some(Request::Replay(Which::Word))),
+    (&[b"steps"], Some(Request::Replay(Which::Steps))),
+    (&[b"-h"], Some(Request::Help)),
+    (&[b"--help"], Some(Request::Help)),
+    (&[b"--version"], Some(Request::Version)),
+    (&[b"--help", b"table"], None),
+    (&[b"table", b"--version"], None),
     (&[], None),
     (&[b"Table"], None),
     (&[b"tables"], None),
@@ -45,10 +50,10 @@ impl Env for Words<'_> {
 }
 
 #[test]
-fn words_choose_machine(rt: HostRuntime) -> Result<(), Fail> {
-    for (row, (words, wanted)) in CHOICES.into_iter().enumerate() {
-        match machine(&(Words(words), rt.alloc())) {
-            Ok(machine) if machine == wanted => {}
+fn words_ask(rt: HostRuntime) -> Result<(), Fail> {
+    for (row, (words, wanted)) in REQUESTS.into_iter().enumerate() {
+        match asked(&(Words(words), rt.alloc())) {
+            Ok(request) if request == wanted => {}
             _ => return Err(Fail::new(row)),
         }
     }
