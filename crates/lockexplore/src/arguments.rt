@@ -1,16 +1,13 @@
 //! Reading the words after the program's name.
-use crate::options::{Form, Print, Sets, Takes, WORDS, Word};
+use crate::options::{Print, Sets, Takes, WORDS, Word};
+use plan_answer::{Form, Options};
 use script_text::unsigned;
 use std::alloc::{AllocError, Global};
 
 /// What the words ask for.
 #[derive(Clone, Copy, PartialEq, Eq, Debug)]
 pub(crate) struct Request {
-    pub(crate) form: Form,
-    /// Whether the number of the plan's line is before each step and each wait.
-    pub(crate) has_lines: bool,
-    /// Whether the input is a plan as it is searched.
-    pub(crate) is_core: bool,
+    pub(crate) options: Options,
     pub(crate) is_quiet: bool,
     pub(crate) memory: Option<u64>,
     pub(crate) seconds: Option<u64>,
@@ -49,9 +46,11 @@ impl Arguments {
     pub(crate) fn new(alloc: Global) -> Arguments {
         Arguments {
             request: Request {
-                form: Form::Text,
-                has_lines: false,
-                is_core: false,
+                options: Options {
+                    form: Form::Text,
+                    has_lines: false,
+                    is_core: false,
+                },
                 is_quiet: false,
                 memory: None,
                 seconds: None,
@@ -106,8 +105,8 @@ impl Arguments {
             (_, Some(_)) => return Some(Wrong::TakesNone(at)),
             (Sets::Value(takes), None) => self.awaited = Some((at, takes)),
             (Sets::Form(form), None) => return self.set_form(at, form),
-            (Sets::Lines, None) => self.request.has_lines = true,
-            (Sets::Core, None) => self.request.is_core = true,
+            (Sets::Lines, None) => self.request.options.has_lines = true,
+            (Sets::Core, None) => self.request.options.is_core = true,
             (Sets::Quiet, None) => self.request.is_quiet = true,
             (Sets::Print(print), None) => self.request.print = Some(print),
         }
@@ -115,10 +114,11 @@ impl Arguments {
     }
 
     fn set_form(&mut self, at: usize, form: Form) -> Option<Wrong> {
-        if self.request.form != Form::Text && self.request.form != form {
+        let set = self.request.options.form;
+        if set != Form::Text && set != form {
             return Some(Wrong::TwoForms(at));
         }
-        self.request.form = form;
+        self.request.options.form = form;
         None
     }
 

@@ -1,29 +1,17 @@
 //! Reads plans of parties from files or standard input, and prints whether they can deadlock.
 #![tactic(auto)]
 
-mod answer;
 mod arguments;
-mod bad_text;
-mod ending;
-mod exploring;
-mod hold_bytes;
 mod machine;
-mod no_answer;
 mod options;
-mod order_budget;
-mod status;
 mod usage;
-mod verdict;
 mod watch;
 
 use crate::arguments::{Arguments, Request};
-use crate::exploring::{Answer, explore_plan};
 use crate::machine::half_of_memory;
-use crate::no_answer::NoAnswer;
-use crate::options::{Form, Print};
-use crate::status::Status;
-use crate::verdict::Verdict;
+use crate::options::Print;
 use crate::watch::Watch;
+use plan_answer::{Answer, Form, NoAnswer, Status, Verdict, explore_plan};
 use std::alloc::AllocError;
 use std::io::{self, IsTerminal, Read, Write};
 use std::process::ExitCode;
@@ -106,7 +94,7 @@ fn answered(rt: &HostRuntime, request: Request, words: &[String], files: &[usize
             Some(word) => word.as_str(),
             None => "-",
         };
-        let has_head = files.len() > 1 && request.form != Form::Json;
+        let has_head = files.len() > 1 && request.options.form != Form::Json;
         let above = if has_head { Some(gap) } else { None };
         let said = file_status(rt, request, file, above);
         if matches!(said, Status::Fine | Status::Stops) {
@@ -144,7 +132,14 @@ fn searched<R: Read>(
         Some(bytes) => usize::try_from(bytes).unwrap_or(usize::MAX),
         None => half_of_memory(rt),
     };
-    let answer = explore_plan(rt.alloc(), file, request, memory, &mut watch, reader);
+    let answer = explore_plan(
+        rt.alloc(),
+        file,
+        request.options,
+        memory,
+        &mut watch,
+        reader,
+    );
     watch.end();
     answer
 }
@@ -185,7 +180,7 @@ fn print_answer(
         print!(rt; "{gap}{file}:\n")?;
     }
     let text = answer.text.as_str();
-    let is_text = matches!(request.form, Form::Text | Form::Lanes | Form::Order);
+    let is_text = matches!(request.options.form, Form::Text | Form::Lanes | Form::Order);
     match text.split_once('\n') {
         Some((first, rest)) if is_text && has_color(rt) => {
             let color = match answer.verdict {

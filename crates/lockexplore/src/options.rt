@@ -1,4 +1,5 @@
 //! The words of the program.
+use plan_answer::Form;
 
 /// A word of the program: the word, the name of the value that it takes, and its help.
 #[derive(Clone, Copy)]
@@ -19,25 +20,6 @@ pub(crate) enum Sets {
     Print(Print),
     /// The value after it.
     Value(Takes),
-}
-
-/// What an answer is written as.
-#[derive(Clone, Copy, PartialEq, Eq, Debug)]
-pub(crate) enum Form {
-    /// Lines of text.
-    Text,
-    /// Lines of text, and a drawing in text below them.
-    Lanes,
-    /// A picture in SVG.
-    Svg,
-    /// An object of JSON in a line.
-    Json,
-    /// A graph of the waits in DOT.
-    Dot,
-    /// Lines of text: an order of the locks, without a search.
-    Order,
-    /// The plan as it is searched, a line for each place.
-    Core,
 }
 
 /// What is printed in place of an answer.

@@ -4,7 +4,7 @@ use lock_plan_order::LockOrder;
 
 /// Whether some interleaving of a plan's calls leads into a stop.
 #[derive(Clone, Copy, PartialEq, Eq, Debug)]
-pub(crate) enum Verdict {
+pub enum Verdict {
     NeverStops,
     Stops,
     /// No order of the locks says that it never stops.

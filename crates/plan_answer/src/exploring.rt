@@ -1,11 +1,10 @@
 //! From a reader's plan to the text of an answer.
 use crate::answer::{answer_text, json_lines, order_text};
-use crate::arguments::Request;
 use crate::bad_text::bad_text;
 use crate::ending::ending_warning;
 use crate::hold_bytes::left_beside_holds;
 use crate::no_answer::NoAnswer;
-use crate::options::Form;
+use crate::options::{Form, Options};
 use crate::order_budget::OrderBudget;
 use crate::verdict::Verdict;
 use lock_plan::explore;
@@ -16,21 +15,24 @@ use std::alloc::{AllocError, AllocFailed, Global};
 use std::io::Read;
 use step_search::Budget;
 
-/// An answer: what it says, its text, and a warning of the plan.
+/// An answer: what it says, its text, a warning of the plan, and how many states a search reached.
 #[derive(Drop)]
-pub(crate) struct Answer {
-    pub(crate) verdict: Verdict,
-    pub(crate) text: String,
-    pub(crate) warning: Option<String>,
+pub struct Answer {
+    pub verdict: Verdict,
+    pub text: String,
+    pub warning: Option<String>,
+    /// 0 without a search.
+    pub states: usize,
 }
 
 impl Answer {
-    /// Makes an answer without a warning.
+    /// Makes an answer without a warning and a search.
     fn plain(verdict: Verdict, text: String) -> Answer {
         Answer {
             verdict,
             text,
             warning: None,
+            states: 0,
         }
     }
 }
@@ -42,17 +44,17 @@ impl Answer {
 ///
 /// In this order: a fault of reading, those of [`read_plan`] or [`read_core`], the first call that can never be made, too many
 /// combinations, no memory or time for the search or the look for an order, no memory for the text.
-pub(crate) fn explore_plan<R: Read, B: Budget>(
+pub fn explore_plan<R: Read, B: Budget>(
     alloc: Global,
     file: &str,
-    request: Request,
+    options: Options,
     memory: usize,
     budget: &mut B,
     reader: &mut R,
 ) -> Result<Answer, NoAnswer> {
     let script = read_script(alloc, reader)?;
     let script = script.as_slice();
-    match answer_of(alloc, request, memory, budget, script) {
+    match answer_of(alloc, options, memory, budget, script) {
         Ok(answer) => Ok(answer),
         Err(Fault::Search(why)) => Err(why),
         Err(Fault::Text(TextFault::TooLarge)) => Err(NoAnswer::TooLarge),
@@ -93,26 +95,26 @@ impl From<NoAnswer> for Fault {
 /// Makes the answer to the plan of a text.
 fn answer_of<B: Budget>(
     alloc: Global,
-    request: Request,
+    options: Options,
     memory: usize,
     budget: &mut B,
     script: &[u8],
 ) -> Result<Answer, Fault> {
-    let mut core = if request.is_core {
+    let mut core = if options.is_core {
         read_core(alloc, script)?
     } else {
         read_plan(alloc, script)?
     };
-    if request.form == Form::Core {
+    if options.form == Form::Core {
         return core_answer(alloc, &core);
     }
-    let answer = if request.form == Form::Order || core.names.has_many() {
-        order_answer(alloc, request.form, memory, budget, &core)
+    let answer = if options.form == Form::Order || core.names.has_many() {
+        order_answer(alloc, options.form, memory, budget, &core)
     } else {
-        search_answer(alloc, request, memory, budget, &mut core)
+        search_answer(alloc, options, memory, budget, &mut core)
     };
     match answer {
-        Err(Fault::Text(TextFault::Lines(lines))) if request.is_core => {
+        Err(Fault::Text(TextFault::Lines(lines))) if options.is_core => {
             Err(Fault::PlanLines(lines))
         }
         answer => answer,
@@ -130,7 +132,7 @@ fn core_answer(alloc: Global, core: &Core) -> Result<Answer, Fault> {
 /// Searches a plan.
 fn search_answer<B: Budget>(
     alloc: Global,
-    request: Request,
+    options: Options,
     memory: usize,
     budget: &mut B,
     core: &mut Core,
@@ -141,11 +143,12 @@ fn search_answer<B: Budget>(
         Ok(explored) => explored,
         Err(fault) => return Err(Fault::Search(NoAnswer::from(fault))),
     };
-    match answer_text(alloc, request.form, request.has_lines, &named, &explored) {
+    match answer_text(alloc, options.form, options.has_lines, &named, &explored) {
         Ok(text) => Ok(Answer {
             verdict: Verdict::of(&explored),
             text,
             warning: ending_warning(alloc, &named),
+            states: explored.visited,
         }),
         Err(_) => Err(Fault::Search(NoAnswer::OutOfMemory)),
     }

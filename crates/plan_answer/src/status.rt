@@ -1,10 +1,10 @@
-//! The status of the program.
+//! The status of a program.
 use crate::no_answer::NoAnswer;
 use crate::verdict::Verdict;
 
 /// What the answers say, of which the worst one decides.
 #[derive(Clone, Copy, PartialEq, Eq, Debug)]
-pub(crate) enum Status {
+pub enum Status {
     Fine,
     /// A search has no answer in its memory or its time.
     Unanswered,
@@ -16,7 +16,7 @@ pub(crate) enum Status {
 
 impl Status {
     /// Returns what an answer says.
-    pub(crate) fn of(verdict: Verdict) -> Status {
+    pub fn of(verdict: Verdict) -> Status {
         match verdict {
             Verdict::NeverStops => Status::Fine,
             Verdict::Stops | Verdict::Unordered => Status::Stops,
@@ -24,7 +24,7 @@ impl Status {
     }
 
     /// Returns what it says that there is no answer.
-    pub(crate) fn without_answer(why: &NoAnswer) -> Status {
+    pub fn without_answer(why: &NoAnswer) -> Status {
         match why {
             NoAnswer::TooLarge
             | NoAnswer::OutOfMemory
@@ -36,7 +36,7 @@ impl Status {
     }
 
     /// Returns the worse one of two.
-    pub(crate) fn or_worse(self, other: Status) -> Status {
+    pub fn or_worse(self, other: Status) -> Status {
         if self.rank() < other.rank() {
             other
         } else {
@@ -53,8 +53,8 @@ impl Status {
         }
     }
 
-    /// Returns the number that the program ends with.
-    pub(crate) fn code(self) -> u8 {
+    /// Returns the number that a program ends with.
+    pub fn code(self) -> u8 {
         match self {
             Status::Fine => 0,
             Status::Stops => 3,

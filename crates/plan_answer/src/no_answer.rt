@@ -4,9 +4,9 @@ use std::alloc::{AllocError, AllocFailed};
 use step_search::SearchFault;
 use thiserror::Error;
 
-/// Why there is no answer to a plan. It shows as the text that the program prints.
+/// Why there is no answer to a plan. It shows as the text that a program prints.
 #[derive(Debug, Drop, Error)]
-pub(crate) enum NoAnswer {
+pub enum NoAnswer {
     /// The text that tells bad lines.
     #[error("{0}")]
     Lines(String),
