@@ -86,7 +86,7 @@ pub struct LockEventStep {
 /// Begins a call that acquires, and returns its first step.
 ///
 /// `want` is 0 for shared, 1 for exclusive, 2 for upgradable, and 3 for an upgrade. The call blocks unless `blocks` is 0. A
-/// writer sets the bar before it sleeps, or finds one, unless `announces` is 0. If `readers` is 1, it first sleeps four times.
+/// writer sets the bar before it sleeps, or finds one, unless `announces` is 0. If `readers` is 1, it first sleeps up to four times.
 #[unsafe(no_mangle)]
 pub extern "C" fn lock_c_4_acquire(
     call: &mut LockCall,

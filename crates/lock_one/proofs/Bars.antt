@@ -1,6 +1,6 @@
 -- A call with a bar is next.
 use Rattle.std.proofs.Common.{◌≡◌, ◌≢◌, ◌⊎◌, ℕ, suc, ◌+◌, ◌-◌, ◌%◌, ◌^◌, ◌<◌, ◌≤◌, Bool, true, false, not, ◌&&◌, ◌||◌, ◌==◌, nat_lt, if◌then◌else◌, inl, inr, List, slice_get, slice_set, Some, IsTrue, refl, sym, ap, subst, ◌∙◌, arith, eqb-true, eq-eqb, ltb-true}
-use Rattle.std.proofs.lemmas.Bool.{false≢true, cases_Bool, and_parts, or_cases, or_left, false_from_ne_true}
+use Rattle.std.proofs.lemmas.Bool.{false≢true, true≢false, cases_Bool, and_parts, or_cases, or_left, false_from_ne_true}
 use Rattle.std.proofs.lemmas.Option.{same_Some}
 use Rattle.lock_modes.specs.declared.hold.Hold.{Hold}
 use Rattle.lock_modes.specs.Limits.{IsLimit}
@@ -26,8 +26,8 @@ use Rattle.lock_one.specs.declared.park.ParkView.{ParkView}
 use Rattle.lock_one.specs.declared.park.Debt.{Debt}
 use Rattle.lock_one.specs.declared.park.Debt.TheVariants as debt
 use Rattle.lock_one.specs.declared.action.Sleeper.{Sleeper}
-use Rattle.lock_one.specs.Rule.{is_asleep, passes_turn}
-use Rattle.lock_one.specs.Machine.{Progress, is_exclusive, core_of, has_turn, admits_word, drops_turn, takes_turn, won, has_sleepers, wakes_one, has_slept, is_due, pauses_before, exchanges_before, word_marked, mark_or_sleep, marked, time_out, withdrawn, decide, goes_to, release_on, release_of, release_again, look_to_remove, subtract, wakes, refused, acquired, sleepers, next_at}
+use Rattle.lock_one.specs.Rule.{is_asleep, is_shared, passes_turn}
+use Rattle.lock_one.specs.Machine.{Progress, is_exclusive, core_of, has_turn, admits_word, drops_turn, takes_turn, won, has_sleepers, wakes_one, has_slept, is_due, is_brief, pauses_before, exchanges_before, word_marked, mark_or_sleep, marked, time_out, withdrawn, decide, goes_to, release_on, release_of, release_again, look_to_remove, subtract, wakes, refused, acquired, sleepers, next_at}
 use Rattle.lock_one.specs.Steps.{made, touches, hold_at, Awaits, IsAt, is_step}
 use Rattle.lock_one.specs.Runs.{Underway, Thread, LockInUse, views_of, new_lock, Act, answer, limits_in, after_act}
 use Rattle.lock_one.specs.Bars.{in_use, IsLateCall, BarredCallsAreNext}
@@ -384,6 +384,30 @@ asleep_under_a_bar s k t u number class brief run at calls asleep announces wish
     = (park.parks number class brief (ap (λ (x : Underway). x.at.1) (sym same) ∙ parks)).0 ∙ ap (λ (x : Underway). x.at.0.loaded) (sym same) in
     subst (λ n. 2 ^ 34 ≤ n % sleepers) (sym number_is) high
 
+-- a brief sleep in a mutex
+brief_of : (call : Call) → is_brief call ≡ true → call.readers ≡ 1 → (call.sleeps ≢ 0) × (call.loaded % sleepers < 2 ^ 34)
+brief_of call brief one =
+    let low = nat_lt (call.loaded % sleepers) (2 ^ 34) in
+    let own = has_slept call && (call.announces && (is_exclusive call.want && low)) in
+    let other = is_shared call.want && not (has_turn call.loaded) in
+    let parts = and_parts (nat_lt call.sleeps 4) (if wakes_one call then own else other) brief in
+    let is_own : own ≡ true = sym (ap (λ b. if b then own else other) (eq-eqb call.readers 1 one)) ∙ parts.1 in
+    let slept = and_parts (has_slept call) (call.announces && (is_exclusive call.want && low)) is_own in
+    let writes = and_parts call.announces (is_exclusive call.want && low) slept.1 in
+    let open_ = and_parts (is_exclusive call.want) low writes.1 in
+    (λ none. true≢false (sym slept.0 ∙ ap not (eq-eqb call.sleeps 0 none)), ltb-true (call.loaded % sleepers) (2 ^ 34) open_.1)
+
+brief_in_a_mutex : (s : LockInUse) (k : ℕ) (t : Thread) (u : Underway) (number : ℕ) (class : Sleeper) → RunKept s
+    → slice_get s.threads k ≡ Some t → t.underway ≡ Some u → is_asleep t.view.park ≡ true → u.at.0.readers ≡ 1
+    → u.at.1 ≡ action.Park number class true → (u.at.0.sleeps ≢ 0) × (number % sleepers < 2 ^ 34)
+brief_in_a_mutex s k t u number class run at calls asleep one parks =
+    let park = sleeper_in_park s run k t at asleep in
+    let same : u ≡ park.underway = same_Some u park.underway (sym calls ∙ park.calls) in
+    let parks_as = park.parks number class true (ap (λ (x : Underway). x.at.1) (sym same) ∙ parks) in
+    let found = brief_of u.at.0 (ap (λ (x : Underway). is_brief x.at.0) same ∙ sym parks_as.2) one in
+    let number_is : number ≡ u.at.0.loaded = parks_as.0 ∙ ap (λ (x : Underway). x.at.0.loaded) (sym same) in
+    (found.0, subst (λ n. n % sleepers < 2 ^ 34) (sym number_is) found.1)
+
 pub barred_calls_are_next : BarredCallsAreNext
 barred_calls_are_next =
     record {
@@ -392,6 +416,7 @@ barred_calls_are_next =
       sleeps_under_a_bar = λ readers acts k t u number class brief range. asleep_under_a_bar (in_use readers acts) k t u number class brief (kept_in readers acts range);
       patient = λ readers acts k t u range at calls own one.
           slept_of u.at.0 (barred_was_due (in_use readers acts) (kept_in readers acts range) k t u at calls own) one;
+      brief_after_a_sleep = λ readers acts k t u number class range. brief_in_a_mutex (in_use readers acts) k t u number class (kept_in readers acts range);
       begins = λ readers wish blocks announces. refl;
       counts = λ found call at. ap (λ (st : Stage). (next_at st found call).0.sleeps) at;
       counts_no_other = λ found call other. counts_next call.stage found call other;

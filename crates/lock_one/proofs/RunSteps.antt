@@ -85,10 +85,12 @@ parks_quietly s k given t u at = by ((given == 0) && (finds u.at.1 s.word && not
     by true = (refl, set_same s.threads k _ (held_at s.threads k t at))
     by false = (refl, set_same s.threads k _ (held_at s.threads k t at))
 
--- a thread has made a step on the word
-pub record MadeBy (s after : LockInUse) : Type 0 where
+-- the act is a step on the word by a thread
+pub record MadeBy (s after : LockInUse) (a : Act) : Type 0 where
   pub number : ℕ
   pub given : ℕ
+  pub other : ℕ
+  pub act : a ≡ steps number given other
   pub own : Thread
   pub underway : Underway
   pub at : slice_get s.threads number ≡ Some own
@@ -97,22 +99,22 @@ pub record MadeBy (s after : LockInUse) : Type 0 where
   pub is : after ≡ steps_by s number given own underway
 
 -- the thread after its step
-abbrev pub thread_made : (s after : LockInUse) → MadeBy s after → Thread
-thread_made s after made =
+abbrev pub thread_made : (s after : LockInUse) (a : Act) → MadeBy s after a → Thread
+thread_made s after a made =
     thread_after (next_of (answer made.underway.at.1 s.word made.given) made.underway.at.0) made.own.view.park made.underway.before
 
 step_makes : (s : LockInUse) (k given j : ℕ) (t : Thread) (o : Option Underway) → slice_get s.threads k ≡ Some t → t.underway ≡ o
-    → IsPlaced (limits_in s.readers) t.view o → Quiet s (step_in s k given j t o) ⊎ MadeBy s (step_in s k given j t o)
+    → IsPlaced (limits_in s.readers) t.view o → Quiet s (step_in s k given j t o) ⊎ MadeBy s (step_in s k given j t o) (steps k given j)
 step_makes s k given j t None at calls place = inl (refl, refl)
 step_makes s k given j t (Some u) at calls place = by u.at.0.stage refl place.0
   where
-    over : (b : Bool) → u.at.1 ≡ action.End b → Quiet s (steps_by s k given t u) ⊎ MadeBy s (steps_by s k given t u)
+    over : (b : Bool) → u.at.1 ≡ action.End b → Quiet s (steps_by s k given t u) ⊎ MadeBy s (steps_by s k given t u) (steps k given j)
     over b end = absurd (true≢false (sym (ap ends end) ∙ place.3))
 
-    on : is_step u.at.0.stage ≡ true → Quiet s (steps_by s k given t u) ⊎ MadeBy s (steps_by s k given t u)
-    on stepping = inr record { number = k; given = given; own = t; underway = u; at = at; calls = calls; stepping = stepping; is = refl }
+    on : is_step u.at.0.stage ≡ true → Quiet s (steps_by s k given t u) ⊎ MadeBy s (steps_by s k given t u) (steps k given j)
+    on stepping = inr record { number = k; given = given; other = j; act = refl; own = t; underway = u; at = at; calls = calls; stepping = stepping; is = refl }
 
-    by : (st : Stage) → u.at.0.stage ≡ st → IsAt st u.at.0 t.view u.at.1 → Quiet s (step_at st s k given j t u) ⊎ MadeBy s (step_at st s k given j t u)
+    by : (st : Stage) → u.at.0.stage ≡ st → IsAt st u.at.0 t.view u.at.1 → Quiet s (step_at st s k given j t u) ⊎ MadeBy s (step_at st s k given j t u) (steps k given j)
     by stage.Look e is = on (ap is_step e)
     by stage.Try e is = on (ap is_step e)
     by stage.Pause e is = on (ap is_step e)
@@ -131,10 +133,10 @@ step_makes s k given j t (Some u) at calls place = by u.at.0.stage refl place.0
     by stage.Ended e is = over true is.1
 
 -- what a step of a thread does
-pub act_makes : (s : LockInUse) (k given i : ℕ) → RunKept s → Quiet s (after_act s (steps k given i)) ⊎ MadeBy s (after_act s (steps k given i))
+pub act_makes : (s : LockInUse) (k given i : ℕ) → RunKept s → Quiet s (after_act s (steps k given i)) ⊎ MadeBy s (after_act s (steps k given i)) (steps k given i)
 act_makes s k given i run = by (slice_get s.threads k) refl
   where
-    by : (o : Option Thread) → slice_get s.threads k ≡ o → Quiet s (step_by s k given i o) ⊎ MadeBy s (step_by s k given i o)
+    by : (o : Option Thread) → slice_get s.threads k ≡ o → Quiet s (step_by s k given i o) ⊎ MadeBy s (step_by s k given i o) (steps k given i)
     by None e = inl (refl, refl)
     by (Some t) e = step_makes s k given i t t.underway e refl (run.each k t e)
 
@@ -148,7 +150,7 @@ unmoved : (s after : LockInUse) → Quiet s after → Unmoved s after
 unmoved s after quiet = (quiet.0, λ j t later at is. same_at s.threads after.threads quiet.1 j t later at is)
 
 -- what an act does
-pub act_moves : (s : LockInUse) (a : Act) → RunKept s → Unmoved s (after_act s a) ⊎ MadeBy s (after_act s a)
+pub act_moves : (s : LockInUse) (a : Act) → RunKept s → Unmoved s (after_act s a) ⊎ MadeBy s (after_act s a) a
 act_moves s join run =
     inl (refl, λ j t later at is. ap (λ (x : Thread). x.view.held) (same_Some later t (sym is ∙ in_longer s.threads new_thread t j at)))
 act_moves s (acquires k want blocks announces) run = inl (unmoved s (after_act s (acquires k want blocks announces)) (by (slice_get s.threads k) refl))
@@ -184,10 +186,10 @@ pub record Stepped (s : LockInUse) (before after : Thread) : Type 0 where
   pub held : after.view.held ≡ hold_at (next_of (answer underway.at.1 s.word given) underway.at.0).0.stage (next_of (answer underway.at.1 s.word given) underway.at.0).0 underway.before
 
 -- of a thread after a step of one: it is that one, or the same as before
-pub of_made : (s after : LockInUse) (made : MadeBy s after) (j : ℕ) (t later : Thread) → slice_get s.threads j ≡ Some t → slice_get after.threads j ≡ Some later
-    → ((t ≡ made.own) × (later ≡ thread_made s after made)) ⊎ (later ≡ t)
-of_made s after made j t later at is =
-    elim (changed_or_not s.threads made.number j (thread_made s after made) later (subst (λ (x : LockInUse). slice_get x.threads j ≡ Some later) made.is is)) [
+pub of_made : (s after : LockInUse) (a : Act) (made : MadeBy s after a) (j : ℕ) (t later : Thread) → slice_get s.threads j ≡ Some t → slice_get after.threads j ≡ Some later
+    → ((t ≡ made.own) × (later ≡ thread_made s after a made)) ⊎ (later ≡ t)
+of_made s after a made j t later at is =
+    elim (changed_or_not s.threads made.number j (thread_made s after a made) later (subst (λ (x : LockInUse). slice_get x.threads j ≡ Some later) made.is is)) [
       | inl e ↦ inl (same_Some t made.own (sym at ∙ (ap (λ n. slice_get s.threads n) e.0 ∙ made.at)), e.1)
       | inr e ↦ inr (same_Some later t (sym e.1 ∙ at))
     ]
@@ -198,7 +200,7 @@ act_holds s a run j before after at later =
     elim (act_moves s a run) [
       | inl same ↦ inl (same.1 j before after at later)
       | inr made ↦
-          elim (of_made s (after_act s a) made j before after at later) [
+          elim (of_made s (after_act s a) a made j before after at later) [
             | inr same ↦ inl (ap (λ (x : Thread). x.view.held) same)
             | inl is ↦ inr record {
               underway = made.underway;

@@ -331,12 +331,12 @@ module _ (call : Call) (v : ParkView) (before : Hold) (word : ℕ) (set : has_tu
 
 -- the same of a run
 
-abbrev MadeOutcome : (s after : LockInUse) → MadeBy s after → Type 0
-MadeOutcome s after m =
+abbrev MadeOutcome : (s after : LockInUse) (a : Act) → MadeBy s after a → Type 0
+MadeOutcome s after a m =
     Outcome m.underway.at.0 m.own.view.held m.underway.before s.word (made m.underway.at.1 s.word) (next_of (answer m.underway.at.1 s.word m.given) m.underway.at.0)
 
-made_under_turn : (s after : LockInUse) (m : MadeBy s after) → RunKept s → has_turn s.word ≡ true → MadeOutcome s after m
-made_under_turn s after m run set =
+made_under_turn : (s after : LockInUse) (a : Act) (m : MadeBy s after a) → RunKept s → has_turn s.word ≡ true → MadeOutcome s after a m
+made_under_turn s after a m run set =
     let u = m.underway in
     let views = views_of s.threads in
     let kept = run.keeps.kept in
@@ -347,8 +347,8 @@ made_under_turn s after m run set =
     (λ d has. amount_within s.readers (core_of s.word) (parties_of views) m.number (party_of m.own.view) d rule (party_at views m.number m.own.view (view_in s.threads m.number m.own m.at)) has)
     u.at.0.stage u.at.1 (answer u.at.1 s.word m.given) place.0 place.1 m.stepping (read_here u.at.1 s.word m.given)
 
-word_made : (s after : LockInUse) (m : MadeBy s after) → after.word ≡ made m.underway.at.1 s.word
-word_made s after m = ap (λ (x : LockInUse). x.word) m.is
+word_made : (s after : LockInUse) (a : Act) (m : MadeBy s after a) → after.word ≡ made m.underway.at.1 s.word
+word_made s after a m = ap (λ (x : LockInUse). x.word) m.is
 
 passed_by_bar : (s : LockInUse) (a : Act) (k : ℕ) (before after : Thread) → RunKept s → has_turn s.word ≡ true → has_turn (after_act s a).word ≡ true
     → slice_get s.threads k ≡ Some before → slice_get (after_act s a).threads k ≡ Some after
@@ -358,16 +358,16 @@ passed_by_bar s a k before after run set still at later =
     elim (act_moves s a run) [
       | inl same ↦ inl (same_tokens after.view.held before.view.held (ap (λ (h : Hold). h.bag) (same.1 k before after at later)))
       | inr m ↦
-          elim (of_made s (after_act s a) m k before after at later) [
+          elim (of_made s (after_act s a) a m k before after at later) [
             | inr same ↦ inl (same_tokens after.view.held before.view.held (ap (λ (x : Thread). x.view.held.bag) same))
             | inl is ↦
                 subst (λ (t : Thread). (tokens after.view.held.bag ≤ tokens t.view.held.bag) ⊎ ((t.view.held.announced ≡ true) × (after.view.held ≡ hold_after t.view.held (step_of_want want.Exclusive)))) (sym is.0)
                 (subst (λ (t : Thread). (tokens t.view.held.bag ≤ tokens m.own.view.held.bag) ⊎ ((m.own.view.held.announced ≡ true) × (t.view.held ≡ hold_after m.own.view.held (step_of_want want.Exclusive)))) (sym is.1)
-                (elim (made_under_turn s (after_act s a) m run set) [
+                (elim (made_under_turn s (after_act s a) a m run set) [
                   | inl few ↦ inl few.0.0
                   | inr other ↦
                       elim other [
-                        | inl reads ↦ absurd (false≢true (sym (ap has_turn (word_made s (after_act s a) m) ∙ reads.1) ∙ still))
+                        | inl reads ↦ absurd (false≢true (sym (ap has_turn (word_made s (after_act s a) a m) ∙ reads.1) ∙ still))
                         | inr writes ↦ inr (writes.0, writes.1)
                       ]
                 ]))
@@ -381,12 +381,12 @@ sets_no_bar s a k before after run set at later bar =
     elim (act_moves s a run) [
       | inl same ↦ ap (λ (h : Hold). h.announced) (sym (same.1 k before after at later)) ∙ bar
       | inr m ↦
-          elim (of_made s (after_act s a) m k before after at later) [
+          elim (of_made s (after_act s a) a m k before after at later) [
             | inr same ↦ ap (λ (x : Thread). x.view.held.announced) (sym same) ∙ bar
             | inl is ↦
-                (let own : (thread_made s (after_act s a) m).view.held.announced ≡ true = ap (λ (x : Thread). x.view.held.announced) (sym is.1) ∙ bar in
+                (let own : (thread_made s (after_act s a) a m).view.held.announced ≡ true = ap (λ (x : Thread). x.view.held.announced) (sym is.1) ∙ bar in
                 ap (λ (x : Thread). x.view.held.announced) is.0
-                ∙ elim (made_under_turn s (after_act s a) m run set) [
+                ∙ elim (made_under_turn s (after_act s a) a m run set) [
                   | inl few ↦ few.0.1 own
                   | inr other ↦
                       elim other [
@@ -397,22 +397,25 @@ sets_no_bar s a k before after run set at later bar =
           ]
     ]
 
-ends_turn : (s : LockInUse) (a : Act) → RunKept s → has_turn s.word ≡ true → (has_turn (after_act s a).word ≡ true) ⊎ EndsTurn s (after_act s a)
+ends_turn : (s : LockInUse) (a : Act) → RunKept s → has_turn s.word ≡ true → (has_turn (after_act s a).word ≡ true) ⊎ EndsTurn s a
 ends_turn s a run set =
     elim (act_moves s a run) [
       | inl same ↦ inl (ap has_turn same.0 ∙ set)
       | inr m ↦
-          (let word_is = word_made s (after_act s a) m in
-          let there : slice_get (after_act s a).threads m.number ≡ Some (thread_made s (after_act s a) m)
-          = ap (λ (x : LockInUse). slice_get x.threads m.number) m.is ∙ placed s.threads m.number m.own (thread_made s (after_act s a) m) m.at in
-          elim (made_under_turn s (after_act s a) m run set) [
+          (let word_is = word_made s (after_act s a) a m in
+          let there : slice_get (after_act s a).threads m.number ≡ Some (thread_made s (after_act s a) a m)
+          = ap (λ (x : LockInUse). slice_get x.threads m.number) m.is ∙ placed s.threads m.number m.own (thread_made s (after_act s a) a m) m.at in
+          elim (made_under_turn s (after_act s a) a m run set) [
             | inl few ↦
                 elim few.1 [
                   | inl stays ↦ inl (ap has_turn word_is ∙ stays)
                   | inr late ↦ inr record {
                     number = m.number;
+                    given = m.given;
+                    other = m.other;
+                    makes = m.act;
                     own = m.own;
-                    own_after = thread_made s (after_act s a) m;
+                    own_after = thread_made s (after_act s a) a m;
                     was = m.at;
                     is = there;
                     reads = inr record { underway = m.underway; calls = m.calls; late = late };
@@ -420,7 +423,7 @@ ends_turn s a run set =
                 ]
             | inr other ↦
                 elim other [
-                  | inl reads ↦ inr record { number = m.number; own = m.own; own_after = thread_made s (after_act s a) m; was = m.at; is = there; reads = inl reads.0 }
+                  | inl reads ↦ inr record { number = m.number; given = m.given; other = m.other; makes = m.act; own = m.own; own_after = thread_made s (after_act s a) a m; was = m.at; is = there; reads = inl reads.0 }
                   | inr writes ↦ inl (ap has_turn word_is ∙ writes.2)
                 ]
           ])
@@ -497,13 +500,13 @@ one_step s k given j run set still =
     later : LockInUse
     later = after_act s (steps k given j)
 
-    of_step : MadeBy s (after_act s (steps k given j))
+    of_step : MadeBy s (after_act s (steps k given j)) (steps k given j)
         → counted (acquires_by s (steps k given j)) + bars (core_of (after_act s (steps k given j)).word) ≤ bars (core_of s.word)
     of_step m =
         let then_ = after_act s (steps k given j) in
-        let word_is = word_made s then_ m in
-        let x = thread_made s then_ m in
-        elim (made_under_turn s then_ m run set) [
+        let word_is = word_made s then_ (steps k given j) m in
+        let x = thread_made s then_ (steps k given j) m in
+        elim (made_under_turn s then_ (steps k given j) m run set) [
           | inl few ↦
               (let fewer_tokens : tokens_of (slice_get then_.threads k) ≤ tokens_of (slice_get s.threads k)
               = subst (λ (y : LockInUse). tokens_of (slice_get y.threads k) ≤ tokens_of (slice_get s.threads k)) (sym m.is)

@@ -1,5 +1,5 @@
--- A call with a bar is next, and a call of a mutex that slept often sleeps under a bar.
-use Rattle.std.specs.Prelude.{◌≡◌, ◌≢◌, ℕ, ◌%◌, ◌^◌, ◌≤◌, Bool, true, ◌⊎◌, List, slice_get, Some}
+-- A call with a bar is next, and a call of a mutex that slept enough sleeps under a bar.
+use Rattle.std.specs.Prelude.{◌≡◌, ◌≢◌, ℕ, ◌%◌, ◌^◌, ◌<◌, ◌≤◌, Bool, true, ◌⊎◌, List, slice_get, Some}
 use Rattle.lock_modes.specs.Limits.{IsLimit}
 use Rattle.lock_modes.specs.Modes.{tokens}
 use Rattle.lock_modes.specs.Holds.{hold_after}
@@ -36,7 +36,7 @@ pub record BarredCallsAreNext : Type 0 where
       → slice_get (in_use readers acts).threads k ≡ Some own → own.view.held.announced ≡ true
       → slice_get (after_act (in_use readers acts) a).threads k ≡ Some after
       → (after.view.held.announced ≡ true) ⊎ ((after.view.held ≡ hold_after own.view.held (step_of_want want.Exclusive)) ⊎ IsLateCall own)
-  -- a writer that announces itself, in a mutex one that has slept four times, sleeps for a word with a bar, its own or another's, or
+  -- a writer that announces itself, in a mutex one that has slept four times or briefly for its time, sleeps for a word with a bar, its own or another's, or
   -- with T, which no mutex has
   pub sleeps_under_a_bar : (readers : ℕ) (acts : List Act) (k : ℕ) (t : Thread) (u : Underway) (number : ℕ) (class : Sleeper) (brief : Bool) → IsLimit readers
       → slice_get (in_use readers acts).threads k ≡ Some t → t.underway ≡ Some u → is_asleep t.view.park ≡ true
@@ -46,6 +46,10 @@ pub record BarredCallsAreNext : Type 0 where
   pub patient : (readers : ℕ) (acts : List Act) (k : ℕ) (t : Thread) (u : Underway) → IsLimit readers
       → slice_get (in_use readers acts).threads k ≡ Some t → t.underway ≡ Some u → t.view.held.announced ≡ true
       → u.at.0.readers ≡ 1 → u.at.0.sleeps ≡ 4
+  -- and only one that has slept sleeps briefly, for a word without a bar. So calls that come set no bars in turn while another sleeps
+  pub brief_after_a_sleep : (readers : ℕ) (acts : List Act) (k : ℕ) (t : Thread) (u : Underway) (number : ℕ) (class : Sleeper) → IsLimit readers
+      → slice_get (in_use readers acts).threads k ≡ Some t → t.underway ≡ Some u → is_asleep t.view.park ≡ true → u.at.0.readers ≡ 1
+      → u.at.1 ≡ Park number class true → (u.at.0.sleeps ≢ 0) × (number % sleepers < 2 ^ 34)
   -- a call counts its sleeps, up to four. A brief one that lasted its time counts as four
   pub begins : (readers : ℕ) (wish : ExWant) (blocks announces : Bool) → (acquiring readers wish blocks announces).0.sleeps ≡ 0
   pub counts : (found : ℕ) (call : Call) → call.stage ≡ stage.Sleep → (next_of found call).0.sleeps ≡ sleeps_after found call

@@ -91,28 +91,31 @@ refused call = goes_to call stage.Refused (End false)
 abbrev pub wakes_one : Call → Bool
 wakes_one call = call.readers == 1
 
--- a call of a mutex sets the bar once it has slept so often, and a reader T
-abbrev pub sleeps_before_bar : ℕ
-sleeps_before_bar = 4
+-- a call of a mutex that slept so often sets the bar, and such a reader T
+abbrev pub enough_sleeps : ℕ
+enough_sleeps = 4
 
 abbrev pub has_slept : Call → Bool
 has_slept call = not (call.sleeps == 0)
 
 -- the sleeps of a call after one more. It counts no further than it has to
 abbrev pub one_more_sleep : ℕ → ℕ
-one_more_sleep sleeps = if nat_lt sleeps sleeps_before_bar then sleeps + 1 else sleeps
+one_more_sleep sleeps = if nat_lt sleeps enough_sleeps then sleeps + 1 else sleeps
 
--- a brief sleep ends after half a millisecond, and then the call counts as one that slept often. It is that of a reader that may set
--- T later, for a word without T
+-- a brief sleep ends after half a millisecond, and then the call counts as one that slept enough. A reader's sleep is brief, for a word
+-- without T. In a mutex so is that of a call that was woken, for a word without a bar. Its first sleep is not, so calls that come
+-- cannot hand the bar to one another while a third sleeps
 abbrev pub is_brief : Call → Bool
 is_brief call =
-    is_shared call.want && (not (wakes_one call) && (nat_lt call.sleeps sleeps_before_bar && not (has_turn call.loaded)))
+    nat_lt call.sleeps enough_sleeps
+    && (if wakes_one call then has_slept call && (call.announces && (is_exclusive call.want && nat_lt (call.loaded % sleepers) (2 ^ 34)))
+    else is_shared call.want && not (has_turn call.loaded))
 
 abbrev pub sleeps_after : ℕ → Call → ℕ
-sleeps_after found call = if (found == 2) && is_brief call then sleeps_before_bar else one_more_sleep call.sleeps
+sleeps_after found call = if (found == 2) && is_brief call then enough_sleeps else one_more_sleep call.sleeps
 
 abbrev pub is_due : Call → Bool
-is_due call = not (wakes_one call) || (call.sleeps == sleeps_before_bar)
+is_due call = not (wakes_one call) || (call.sleeps == enough_sleeps)
 
 abbrev pub pauses_before : ℕ
 pauses_before = 6
@@ -132,11 +135,11 @@ abbrev pub sets_bar : Call → Bool
 sets_bar call =
     call.announces && (is_exclusive call.want && (not call.announced && (is_due call && nat_lt (call.loaded % sleepers) (2 ^ 34))))
 
--- a reader that slept often sets T, if a writer holds the lock or has set the bar
+-- a reader that slept enough sets T, if a writer holds the lock or has set the bar
 abbrev pub sets_turn : Call → Bool
 sets_turn call =
     is_shared call.want && (not (wakes_one call)
-    && ((call.sleeps == sleeps_before_bar) && (nat_lt (call.loaded % sleepers) turn && not (nat_lt (call.loaded % sleepers) (2 ^ 33)))))
+    && ((call.sleeps == enough_sleeps) && (nat_lt (call.loaded % sleepers) turn && not (nat_lt (call.loaded % sleepers) (2 ^ 33)))))
 
 abbrev pub word_marked : Call → ℕ
 word_marked call =

@@ -76,18 +76,22 @@ may_release t down = is_idle t.underway && hold_has t.view.held (step_of_down do
 abbrev pub begins : Thread → Progress → Thread
 begins t next = record t { underway = Some record { at = next; before = t.view.held } }
 
--- whether a party that has made a step is awake for good: its call is over, or owes a wake-up
+-- whether a call at this stage is over, releases, or owes a wake-up: it acquires no more
+abbrev pub is_over : Stage → Bool
+is_over stage.LookToRemove = true
+is_over stage.Subtract = true
+is_over stage.Release = true
+is_over stage.Wake = true
+is_over stage.WakeRefused = true
+is_over stage.WakeAcquired = true
+is_over stage.Acquired = true
+is_over stage.Refused = true
+is_over stage.Ended = true
+is_over waiting = false
+
+-- a party whose call is over is awake for good
 abbrev pub park_at : Stage → Park → Park
-park_at stage.LookToRemove park = Awake
-park_at stage.Subtract park = Awake
-park_at stage.Release park = Awake
-park_at stage.Wake park = Awake
-park_at stage.WakeRefused park = Awake
-park_at stage.WakeAcquired park = Awake
-park_at stage.Acquired park = Awake
-park_at stage.Refused park = Awake
-park_at stage.Ended park = Awake
-park_at waiting park = park
+park_at at park = if is_over at then Awake else park
 
 -- a call owes the wake-up that is its next action
 abbrev pub debt_at : Action → Debt
@@ -105,16 +109,7 @@ debt_at (action.End b) = debt.Nothing
 
 -- whether a call at this stage has set T, and goes on
 abbrev pub turned_at : Stage → Bool → Bool
-turned_at stage.LookToRemove turned = false
-turned_at stage.Subtract turned = false
-turned_at stage.Release turned = false
-turned_at stage.Wake turned = false
-turned_at stage.WakeRefused turned = false
-turned_at stage.WakeAcquired turned = false
-turned_at stage.Acquired turned = false
-turned_at stage.Refused turned = false
-turned_at stage.Ended turned = false
-turned_at waiting turned = turned
+turned_at at turned = not (is_over at) && turned
 
 abbrev pub view_after : Progress → Park → Hold → ParkView
 view_after next park before =
@@ -251,7 +246,7 @@ pub record ThreadsAreServed (s : LockInUse) : Type 0 where
   -- the word without T and S is the sum of what the threads hold, which is compatible, with at most one bar
   pub coded : core_of s.word ≡ word_of (all_of (holds_of (views_of s.threads)))
   pub legal : IsLegalBarredBag s.readers (all_of (holds_of (views_of s.threads)))
-  -- in a mutex, only a call that has slept often has a bar
+  -- in a mutex, only a call that has slept enough has a bar
   pub patient : (k : ℕ) (t : Thread) (u : Underway) → slice_get s.threads k ≡ Some t → t.underway ≡ Some u → t.view.held.announced ≡ true
       → is_due u.at.0 ≡ true
   -- a thread that sleeps wants what it may acquire

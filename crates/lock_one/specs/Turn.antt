@@ -34,13 +34,16 @@ abbrev pub keeps_turn : LockInUse → List Act → Bool
 keeps_turn s [] = has_turn s.word
 keeps_turn s (a ∷ acts) = has_turn s.word && keeps_turn (after_act s a) acts
 
--- a thread has made a step that ended the turn: it acquired as a reader, or its deadline has passed
-pub record EndsTurn (before after : LockInUse) : Type 0 where
+-- the act ends the turn: it is a step of a thread that acquires by it as a reader, or whose deadline has passed
+pub record EndsTurn (before : LockInUse) (a : Act) : Type 0 where
   pub number : ℕ
+  pub given : ℕ
+  pub other : ℕ
+  pub makes : a ≡ steps number given other
   pub own : Thread
   pub own_after : Thread
   pub was : slice_get before.threads number ≡ Some own
-  pub is : slice_get after.threads number ≡ Some own_after
+  pub is : slice_get (after_act before a).threads number ≡ Some own_after
   pub reads : (own_after.view.held ≡ hold_after own.view.held (step_of_want want.Shared)) ⊎ IsLateCall own
 
 -- THE LAW OF THE TURN, after any acts of any number of threads
@@ -62,7 +65,7 @@ pub record ReadersGetATurn : Type 0 where
   -- T stays, until a reader acquires, or the deadline of a call has passed
   pub turn_stays : (readers : ℕ) (acts : List Act) (a : Act) → IsLimit readers
       → has_turn (in_use readers acts).word ≡ true
-      → (has_turn (after_act (in_use readers acts) a).word ≡ true) ⊎ EndsTurn (in_use readers acts) (after_act (in_use readers acts) a)
+      → (has_turn (after_act (in_use readers acts) a).word ≡ true) ⊎ EndsTurn (in_use readers acts) a
   -- while T is set, a reader is in a call that has set it, and that blocks
   pub owned : (readers : ℕ) (acts : List Act) → IsLimit readers → has_turn (in_use readers acts).word ≡ true
       → SomeoneTurns (in_use readers acts).threads

@@ -27,9 +27,9 @@ const YIELDS_FROM: u64 = 134_217_728;
 /// How many more exchanges a release makes after its first one fails. Then it subtracts, which cannot fail.
 const EXCHANGES: u32 = 8;
 
-/// After how many sleeps a call of a mutex sets the bar, and a reader its turn. So a call that slept often is next, and a
-/// lock that is seldom contended for long hands nothing over.
-const SLEEPS: u8 = 4;
+/// How often a call sleeps before a call of a mutex sets the bar, and a reader its turn. So a call that slept enough is next,
+/// and a lock that is seldom contended for long hands nothing over.
+const ENOUGH_SLEEPS: u8 = 4;
 
 /// How many pauses a call makes before it sleeps.
 const PAUSES: u32 = 6;
@@ -53,7 +53,7 @@ pub struct Call {
     pub down: Down,
     /// Whether the call blocks.
     pub blocks: bool,
-    /// Whether the call sets the bar before it sleeps. In a mutex it first sleeps four times.
+    /// Whether the call sets the bar before it sleeps. In a mutex it first sleeps up to four times.
     pub announces: bool,
     /// Whether the call has set the bar.
     pub announced: bool,
@@ -165,11 +165,11 @@ impl Call {
         self.sleeps != 0
     }
 
-    /// Returns whether the call may set the bar: a call of a mutex once it has slept often.
+    /// Returns whether the call may set the bar: a call of a mutex once it has slept enough.
     fn is_due(&self) -> bool
         ensures { result ≡ is_due self.now }
     {
-        !self.wakes_one() || self.sleeps == SLEEPS
+        !self.wakes_one() || self.sleeps == ENOUGH_SLEEPS
     }
 
     /// Returns how often the call has slept after a sleep with this answer.
@@ -177,20 +177,28 @@ impl Call {
         ensures { result ≡ sleeps_after found self.now }
     {
         if found == 2 && self.is_brief() {
-            return SLEEPS;
+            return ENOUGH_SLEEPS;
         }
-        if self.sleeps < SLEEPS {
+        if self.sleeps < ENOUGH_SLEEPS {
             self.sleeps + 1
         } else {
             self.sleeps
         }
     }
 
-    /// Returns whether the next sleep is brief.
+    /// Returns whether the next sleep is brief: that of a reader, or of a call of a mutex that was woken.
     fn is_brief(&self) -> bool
         ensures { result ≡ is_brief self.now }
     {
-        is_shared(self.want) && !self.wakes_one() && self.sleeps < SLEEPS && !has_turn(self.loaded)
+        if self.sleeps >= ENOUGH_SLEEPS {
+            return false;
+        }
+        if self.wakes_one() {
+            let is_exclusive = matches!(self.want, ExWant::Exclusive);
+            let has_bar = self.loaded % SLEEPERS >= BAR;
+            return self.has_slept() && self.announces && is_exclusive && !has_bar;
+        }
+        is_shared(self.want) && !has_turn(self.loaded)
     }
 
     /// Returns whether the call takes the turn as it acquires on this word.
@@ -282,7 +290,7 @@ impl Call {
         let flags = self.loaded % SLEEPERS;
         is_shared(self.want)
             && !self.wakes_one()
-            && self.sleeps == SLEEPS
+            && self.sleeps == ENOUGH_SLEEPS
             && flags < TURN
             && flags >= EXCLUSIVE
     }

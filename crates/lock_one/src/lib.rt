@@ -1,7 +1,7 @@
 //! A lock of one word: the rule by which no wake-up is lost, and the machine of its calls.
 //!
 //! The word is the packed word of `lock_word` with two more bits. A thread sets the bit of sleepers before it sleeps on the
-//! word, and a release that finds it set wakes sleepers. A reader that slept often sets the turn of readers. Then no writer
+//! word, and a release that finds it set wakes sleepers. A reader that slept enough sets the turn of readers. Then no writer
 //! acquires but the one that has set the bar, until a reader acquires. After the exchange that releases, the call uses only the address of the
 //! word, so another thread may free the word at once.
 #![tactic(auto)]
