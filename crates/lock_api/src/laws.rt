@@ -10,8 +10,7 @@ pub use lock_machine::laws::{
 };
 pub use lock_one::{
     answers_match_holds, barred_calls_are_next, every_run_is_served, first_steps,
-    nobody_is_forgotten, readers_get_a_turn, refusals_have_causes, releases_touch_no_more,
-    sleeps_keep_the_rule, steps_keep_parking, steps_keep_the_rule, storing_keeps_words,
+    readers_get_a_turn, refusals_have_causes, releases_touch_no_more, storing_keeps_words,
 };
 pub use lock_one_word::every_state_is_legal;
 pub use lock_parts::{

@@ -1,5 +1,8 @@
+pub mod Kept
 pub mod Parking
 pub mod LastAccess
+pub mod Words
+pub mod Payments
 pub mod Steps
 pub mod Actions
 pub mod Answers

@@ -26,7 +26,8 @@ use Rattle.lock_one.specs.declared.park.Park.{Park}
 use Rattle.lock_one.specs.declared.park.Park.TheVariants.{Awake, Asleep, Woken}
 use Rattle.lock_one.specs.declared.park.Debt.{Debt}
 use Rattle.lock_one.specs.declared.park.Debt.TheVariants.{Nothing, One, All, Next, Turn}
-use Rattle.lock_one.specs.Rule.{holds_of, admits_to, is_shared, is_upgrade, passes_turn, IsRefused, is_next, is_in_turn, is_woken, is_asleep, reaches, is_free, has_duty, serves, SomeoneServes, IsServed, NoneIsForgotten, IsEntitled, KeepsParking, with_park, with_debt, after_win, after_take, frees, IsPaid, is_unset, is_unneeded, is_barred, is_shared_bar, is_turned, is_all, is_one, wake_park_all, wake_park_of, wake_all, wake_of, EachStepKeeps, new_party, StepsKeepParking}
+use Rattle.lock_one.specs.Rule.{holds_of, admits_to, is_shared, is_upgrade, passes_turn, IsRefused, is_next, is_in_turn, is_woken, is_asleep, reaches, is_free, has_duty, serves, SomeoneServes, IsServed, NoneIsForgotten, IsEntitled, KeepsParking, with_park, with_debt, wake_park_all, wake_park_of, wake_all, wake_of, new_party}
+use Rattle.lock_one.proofs.Kept.{after_win, after_take, frees, IsPaid, is_unset, is_unneeded, is_barred, is_shared_bar, is_turned, is_all, is_one, EachStepKeeps, StepsKeepParking}
 
 -- lists of views of which one is changed
 

@@ -24,7 +24,8 @@ use Rattle.lock_one.specs.Machine.{Progress, is_exclusive, turn, sleepers, core_
 use Rattle.lock_one.specs.Steps.{made, touches, ends, Acquires, Awaits, IsAt, is_step}
 use Rattle.lock_one.specs.Runs.{Underway, Thread, LockInUse, views_of, limits_in, new_thread, new_lock, Act, join, acquires, releases, steps, turned_at, begins, may_acquire, may_release, is_idle, with_thread, view_to, any_asleep, answer, finds, goes_on, steps_by, paid, wake_at, wakes_by, step_at, step_in, step_by, acquire_by, release_by, after_act, after_acts, IsTurnOf, SomeoneTurns, ThreadsAreServed, EveryRunIsServed}
 use Rattle.lock_one.proofs.Parking.{parties_of, party_of, party_at, rule_of}
-use Rattle.lock_one.proofs.Steps.{encoded, encoded_turn, lessened, dropped, no_both, low_is, rest_leaves, small_core}
+use Rattle.lock_one.proofs.Sleeps.{refused_at_rest}
+use Rattle.lock_one.proofs.Words.{encoded, encoded_turn, lessened, dropped, no_both, low_is, rest_leaves, small_core}
 use Rattle.lock_one.proofs.RunViews.{IsPlaced, RunKept, view_in, quiet_sleep, owes_at}
 use Rattle.lock_one.proofs.Runs.{act_kept, acts_kept, new_kept, sleeper_in_park, barred_was_due}
 
@@ -488,6 +489,7 @@ served s run owned =
       coded = run.keeps.kept.coded;
       legal = run.keeps.kept.legal;
       none_forgotten = run.keeps.kept.none_forgotten;
+      at_rest = λ k v want at asleep. refused_at_rest (limits_in s.readers) s.word (views_of s.threads) k v want run.keeps at asleep;
       turn_owned = λ set. someone_turns s run (owned set);
       no_turn = λ one. run.keeps.kept.no_turn (eq-eqb s.readers 1 one);
       parked = sleeper_in_park s run;

@@ -1,6 +1,6 @@
 -- Sleeps and wake-ups keep the rule.
 use Rattle.std.proofs.Common.{◌≡◌, ◌≢◌, ℕ, not, ◌+◌, ◌%◌, ◌^◌, Bool, true, false, ◌&&◌, ◌||◌, ◌==◌, nat_lt, if◌then◌else◌, inl, inr, List, map, slice_get, slice_set, Some, IsTrue, refl, sym, ap, subst, ◌∙◌, arith, eqb-true, lt-ltb}
-use Rattle.std.proofs.lemmas.Bool.{false≢true, true≢false, cases_lt, cases_Bool, or_cases, or_right, false_from_ne_true}
+use Rattle.std.proofs.lemmas.Bool.{false≢true, true≢false, cases_Bool, or_cases, or_right, false_from_ne_true}
 use Rattle.std.proofs.lemmas.Option.{same_Some}
 use Rattle.lock_modes.specs.Limits.{IsLimit}
 use Rattle.lock_word.specs.declared.want.ExWant.{ExWant}
@@ -10,16 +10,18 @@ use Rattle.lock_one.specs.declared.action.Action.{Action}
 use Rattle.lock_one.specs.declared.action.Action.TheVariants as action
 use Rattle.lock_one.specs.declared.call.Call.{Call}
 use Rattle.lock_one.specs.declared.stage.Stage.TheVariants as stage
+use Rattle.lock_one.specs.declared.park.ParkLimits.{ParkLimits}
 use Rattle.lock_one.specs.declared.park.ParkView.{ParkView}
 use Rattle.lock_one.specs.declared.park.Park.{Park}
 use Rattle.lock_one.specs.declared.park.Park.TheVariants.{Awake, Asleep, Woken}
 use Rattle.lock_one.specs.declared.park.Debt.{Debt}
 use Rattle.lock_one.specs.declared.park.Debt.TheVariants as debt
-use Rattle.lock_one.specs.Rule.{passes_turn, is_woken, is_asleep, is_next, is_in_turn, has_duty, reaches, admits_to, IsRefused, KeepsParking, EachStepKeeps, with_park, with_debt, wake_park_of, wake_all, wake_of, wake_next, wake_turn}
+use Rattle.lock_one.specs.Rule.{passes_turn, is_woken, is_asleep, is_next, is_in_turn, has_duty, reaches, admits_to, IsRefused, KeepsParking, with_park, with_debt, wake_park_of, wake_all, wake_of, wake_next, wake_turn}
 use Rattle.lock_one.specs.Machine.{core_of, has_turn, has_sleepers, wakes_one, is_due, is_brief, one_more_sleep, sleeps_after, next_at}
-use Rattle.lock_one.specs.Steps.{limits_of, Acquires, Acquiring, IsWake, IsAt, Keeps, SleepsKeepTheRule, NobodyIsForgotten}
+use Rattle.lock_one.specs.Steps.{limits_of, Acquires, Acquiring, IsWake, IsAt, Keeps}
+use Rattle.lock_one.proofs.Kept.{EachStepKeeps, SleepsKeepTheRule}
 use Rattle.lock_one.proofs.Parking.{each_step, duty_serves, held_refuses, mutex_refuses, others_admit}
-use Rattle.lock_one.proofs.Steps.{refused_is_taken, refused_is_held, refusal_of}
+use Rattle.lock_one.proofs.Words.{refused_is_taken, refused_is_held, refusal_of}
 
 refused_to : (call : Call) (core : ℕ) (v : ParkView) → call.announced ≡ v.held.announced → word_admits call.announced call.readers core call.want ≡ false
     → (IsTrue (wakes_one call) → core ≢ 0) → (call.announced ≡ true → core % 2 ^ 34 ≢ 0) → admits_to (limits_of call) core v call.want ≡ false
@@ -265,28 +267,22 @@ sleeps_keep_the_rule =
       );
     }
 
-pub nobody_is_forgotten : NobodyIsForgotten
-nobody_is_forgotten =
-    record {
-      served = λ limits word views k v wish keeps at asleep. keeps.kept.none_forgotten k v wish at asleep;
-      at_rest = λ limits word views k v wish keeps at asleep rests.
-          elim (keeps.kept.none_forgotten k v wish at asleep) [
-            | inl is ↦ (
-              (elim (cases_lt word (2 ^ 36)) [
-                | inl low ↦ absurd (false≢true (sym (ap not (lt-ltb word (2 ^ 36) low)) ∙ is.0))
-                | inr high ↦ high
-              ]),
-              is.1,
-            )
-            | inr someone ↦
-                (let none = rests someone.number someone.server someone.is in
-                let d : reaches limits someone.server.debt v wish ≡ false = ap (λ x. reaches limits x v wish) none.0 in
-                elim (or_cases (reaches limits someone.server.debt v wish) (has_duty limits someone.server && not v.held.announced) someone.does) [
-                  | inl owes ↦ absurd (false≢true (sym d ∙ owes))
-                  | inr duty ↦ absurd (by limits.wakes_one someone.server.park none.1 (duty_serves limits someone.server v duty).0)
-                ])
-          ];
-    }
+-- where no party owes a wake-up or is woken, S is set and the word refuses each sleeper
+pub refused_at_rest : (limits : ParkLimits) (word : ℕ) (views : List ParkView) (k : ℕ) (v : ParkView) (wish : ExWant)
+    → Keeps limits word views → slice_get views k ≡ Some v → v.park ≡ Asleep wish
+    → ((j : ℕ) (w : ParkView) → slice_get views j ≡ Some w → (w.debt ≡ debt.Nothing) × (is_woken w.park ≡ false))
+    → (has_sleepers word ≡ true) × IsRefused limits (core_of word) (has_turn word) v wish
+refused_at_rest limits word views k v wish keeps at asleep rests =
+    elim (keeps.kept.none_forgotten k v wish at asleep) [
+      | inl is ↦ is
+      | inr someone ↦
+          (let none = rests someone.number someone.server someone.is in
+          let d : reaches limits someone.server.debt v wish ≡ false = ap (λ x. reaches limits x v wish) none.0 in
+          elim (or_cases (reaches limits someone.server.debt v wish) (has_duty limits someone.server && not v.held.announced) someone.does) [
+            | inl owes ↦ absurd (false≢true (sym d ∙ owes))
+            | inr duty ↦ absurd (by limits.wakes_one someone.server.park none.1 (duty_serves limits someone.server v duty).0)
+          ])
+    ]
   where
     by : (b : Bool) (park : Park) → is_woken park ≡ false → IsTrue (b && is_woken park) → ⊥
     by true park no_duty duty = false≢true (sym no_duty ∙ duty)

@@ -29,7 +29,7 @@ use Rattle.lock_one.specs.Runs.{Underway, Thread, LockInUse, views_of, limits_in
 use Rattle.lock_one.specs.Bars.{in_use}
 use Rattle.lock_one.specs.Turn.{tokens_of, acquires_by, acquisitions, keeps_turn, EndsTurn, ReadersGetATurn}
 use Rattle.lock_one.proofs.Parking.{parties_of, party_of, party_at, rule_of}
-use Rattle.lock_one.proofs.Steps.{encoded, encoded_core, encoded_turn, lessened, dropped, low_is, high_is, turn_is, turn_clear, rest_leaves, small_core}
+use Rattle.lock_one.proofs.Words.{encoded, encoded_core, encoded_turn, lessened, dropped, low_is, high_is, turn_is, turn_clear, rest_leaves, small_core}
 use Rattle.lock_one.proofs.RunViews.{IsPlaced, RunKept, view_in}
 use Rattle.lock_one.proofs.RunActs.{bare_after}
 use Rattle.lock_one.proofs.RunSteps.{held_in, MadeBy, thread_made, act_makes, act_moves, of_made}

@@ -1,16 +1,14 @@
 -- The rule of a lock of one word. It ties the word, T, the turn of readers, and S, the bit of sleepers, to what each party holds, sleeps
 -- for and owes.
-use Rattle.std.specs.Prelude.{◌≡◌, ◌≢◌, ℕ, ◌-◌, ◌^◌, ◌%◌, ◌<◌, ◌≤◌, Bool, true, false, not, ◌&&◌, ◌||◌, ◌==◌, ◌⊎◌, if◌then◌else◌, List, [], ◌∷◌, map, slice_get, slice_set, Some, IsTrue}
+use Rattle.std.specs.Prelude.{◌≡◌, ℕ, ◌^◌, ◌%◌, Bool, true, false, not, ◌&&◌, ◌||◌, ◌==◌, ◌⊎◌, if◌then◌else◌, List, map, slice_get, Some, IsTrue}
 use Rattle.lock_modes.specs.declared.hold.Hold.{Hold}
-use Rattle.lock_modes.specs.Limits.{IsLimit}
-use Rattle.lock_modes.specs.Holds.{no_hold, hold_has, hold_after}
+use Rattle.lock_modes.specs.Holds.{no_hold, hold_has}
 use Rattle.lock_word.specs.declared.want.ExWant.{ExWant}
 use Rattle.lock_word.specs.declared.want.ExWant.TheVariants as want
-use Rattle.lock_word.specs.declared.down.Down.{Down}
 use Rattle.lock_word.specs.BarredBags.{IsLegalBarredBag}
 use Rattle.lock_word.specs.Holders.{all_of}
-use Rattle.lock_word.specs.Word.{word_of, word_admits, word_after, amount, step_of_want, step_of_down}
-use Rattle.lock_word.specs.Unblocking.{is_awaited, word_unblocks}
+use Rattle.lock_word.specs.Word.{word_of, word_admits, step_of_want}
+use Rattle.lock_word.specs.Unblocking.{is_awaited}
 use Rattle.lock_one.specs.declared.park.ParkLimits.{ParkLimits}
 use Rattle.lock_one.specs.declared.park.ParkView.{ParkView}
 use Rattle.lock_one.specs.declared.park.Park.{Park}
@@ -125,32 +123,6 @@ with_park v park = record v { park = park }
 abbrev pub with_debt : ParkView → Debt → ParkView
 with_debt v debt = record v { debt = debt }
 
-abbrev pub after_win : ParkView → ExWant → ParkView
-after_win v want = record { held = hold_after v.held (step_of_want want); park = Awake; debt = Nothing }
-
-abbrev pub after_take : ParkView → Down → Debt → ParkView
-after_take v down debt = record { held = hold_after v.held (step_of_down down); park = Awake; debt = debt }
-
--- whether the change of the word may unblock some sleeper
-abbrev pub frees : ParkLimits → ℕ → ℕ → Bool
-frees limits before after = if limits.wakes_one then after % 2 ^ 34 == 0 else word_unblocks limits.readers before after
-
--- what a release has to do about S, and what it owes after it
-pub data IsPaid (limits : ParkLimits) (before after : ℕ) (t s now : Bool) : Debt → Type 0 where
-  -- S was not set
-  is_unset : s ≡ false → IsPaid limits before after t s now Nothing
-  -- no sleeper is unblocked, and S stays
-  is_unneeded : frees limits before after ≡ false → now ≡ true → IsPaid limits before after t s now Nothing
-  -- the bar stays, and S
-  is_barred : 2 ^ 34 ≤ after → now ≡ true → IsPaid limits before after t s now Next
-  is_shared_bar : 2 ^ 34 ≤ after → now ≡ true → IsPaid limits before after t s now Turn
-  -- T stays, and S
-  is_turned : t ≡ true → now ≡ true → IsPaid limits before after t s now Turn
-  -- S stays or goes
-  is_all : IsPaid limits before after t s now All
-  -- and no bar is set
-  is_one : IsTrue limits.wakes_one → after < 2 ^ 34 → IsPaid limits before after t s now One
-
 -- the sleepers that a wake-up wakes
 abbrev pub woken_if : Bool → Park → Park
 woken_if b park = if b then Woken else park
@@ -178,56 +150,5 @@ wake_next = wake_of is_next
 abbrev pub wake_turn : ParkView → ParkView
 wake_turn = wake_of is_in_turn
 
--- each kind of step of the party at k keeps the rule
-pub record EachStepKeeps (limits : ParkLimits) (core : ℕ) (t s : Bool) (views : List ParkView) (k : ℕ) (me : ParkView) : Type 0 where
-  -- an exchange that acquires, upgrades or sets the bar. It keeps T and S, and sets S for one that has a duty
-  pub exchange : (want : ExWant) (now : Bool) → IsTrue (hold_has me.held (step_of_want want))
-      → IsTrue (word_admits me.held.announced limits.readers core want)
-      → me.debt ≡ Nothing → (s ≡ true → now ≡ true) → (IsTrue (has_duty limits me) → now ≡ true)
-      → KeepsParking limits (word_after core want) t now (slice_set views k (after_win me want))
-  -- an exchange that acquires and clears T. It owes all sleepers a wake-up
-  pub takes_turn : (want : ExWant) (now : Bool) (debt : Debt) → IsTrue (hold_has me.held (step_of_want want))
-      → IsTrue (word_admits me.held.announced limits.readers core want)
-      → me.debt ≡ Nothing → limits.wakes_one ≡ false → (s ≡ true → debt ≡ All)
-      → KeepsParking limits (word_after core want) false now (slice_set views k (with_debt (after_win me want) debt))
-  -- an exchange that sets S alone, or T too
-  pub marks : KeepsParking limits core t true views
-  pub turns : limits.wakes_one ≡ false → KeepsParking limits core true true views
-  -- a withdrawal of T. It owes all sleepers a wake-up
-  pub drops_turn : (debt : Debt) → me.debt ≡ Nothing → limits.wakes_one ≡ false → (s ≡ true → debt ≡ All)
-      → KeepsParking limits core false s (slice_set views k (with_debt (with_park me Awake) debt))
-  -- a release, a downgrade or a withdrawal. One that has a duty leaves S on a word that refuses
-  pub take : (down : Down) (now : Bool) (debt : Debt) → IsTrue (hold_has me.held (step_of_down down))
-      → me.debt ≡ Nothing → (IsTrue (has_duty limits me) → (now ≡ true) × (frees limits core (core - amount down) ≡ false))
-      → IsPaid limits core (core - amount down) t s now debt
-      → KeepsParking limits (core - amount down) t now (slice_set views k (after_take me down debt))
-  -- the party finds, as it parks, that S is set and that the word refuses
-  pub sleeps : (want : ExWant) → IsEntitled me want → me.debt ≡ Nothing → s ≡ true → IsRefused limits core t me want
-      → KeepsParking limits core t s (slice_set views k (with_park me (Asleep want)))
-  -- a sleep ends, for whatever reason
-  pub wakes : KeepsParking limits core t s (slice_set views k (with_park me Woken))
-  -- a party stops waiting. In a mutex it has found or set S on a word that is not free
-  pub stops : me.debt ≡ Nothing → (IsTrue limits.wakes_one → (s ≡ true) × (core ≢ 0))
-      → KeepsParking limits core t s (slice_set views k (with_park me Awake))
-  -- the wake-ups that are owed
-  pub pays_all : me.debt ≡ All → KeepsParking limits core t s (slice_set (map wake_all views) k (with_debt (wake_all me) Nothing))
-  pub pays_next : me.debt ≡ Next → is_asleep me.park ≡ false → has_duty limits me ≡ false
-      → KeepsParking limits core t s (slice_set (map wake_next views) k (with_debt (wake_next me) Nothing))
-  pub pays_turn : me.debt ≡ Turn → is_asleep me.park ≡ false → has_duty limits me ≡ false
-      → KeepsParking limits core t s (slice_set (map wake_turn views) k (with_debt (wake_turn me) Nothing))
-  -- one was woken, or no party sleeps
-  pub pays_one : (j : ℕ) (w : ParkView) → me.debt ≡ One → is_asleep me.park ≡ false → j ≢ k → slice_get views j ≡ Some w → w.park ≡ Woken
-      → KeepsParking limits core t s (slice_set views k (with_debt me Nothing))
-  pub pays_nobody : ((j : ℕ) (v : ParkView) → slice_get views j ≡ Some v → is_asleep v.park ≡ false)
-      → KeepsParking limits core t s (slice_set views k (with_debt me Nothing))
-
 abbrev pub new_party : ParkView
 new_party = record { held = no_hold; park = Awake; debt = Nothing }
-
--- THE LAW
-pub record StepsKeepParking : Type 0 where
-  pub starts : (limits : ParkLimits) → IsLimit limits.readers → (IsTrue limits.wakes_one → limits.readers ≡ 1)
-      → KeepsParking limits 0 false false (new_party ∷ [])
-  pub steps : (limits : ParkLimits) (core : ℕ) (t s : Bool) (views : List ParkView) (k : ℕ) (me : ParkView)
-      → IsLimit limits.readers → KeepsParking limits core t s views → slice_get views k ≡ Some me
-      → EachStepKeeps limits core t s views k me

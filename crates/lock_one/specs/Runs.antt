@@ -20,7 +20,7 @@ use Rattle.lock_one.specs.declared.park.Park.{Park}
 use Rattle.lock_one.specs.declared.park.Park.TheVariants.{Awake, Asleep, Woken}
 use Rattle.lock_one.specs.declared.park.Debt.{Debt}
 use Rattle.lock_one.specs.declared.park.Debt.TheVariants as debt
-use Rattle.lock_one.specs.Rule.{holds_of, is_asleep, is_shared, IsEntitled, IsServed, with_park, with_debt, wake_all, wake_next, wake_turn, new_party}
+use Rattle.lock_one.specs.Rule.{holds_of, is_woken, is_asleep, is_shared, IsRefused, IsEntitled, IsServed, with_park, with_debt, wake_all, wake_next, wake_turn, new_party}
 use Rattle.lock_one.specs.Machine.{Progress, is_exclusive, is_due, core_of, has_turn, has_sleepers, sleepers, class_of, is_brief, sets_turn, acquiring, taking, next_at, next_of}
 use Rattle.lock_one.specs.Steps.{made, touches, ends, hold_at}
 
@@ -254,6 +254,10 @@ pub record ThreadsAreServed (s : LockInUse) : Type 0 where
   -- of each sleeper: S is set, and the word or T refuses it; or a thread owes it a wake-up, or (in a mutex) was woken in its place
   pub none_forgotten : (k : ℕ) (v : ParkView) (want : ExWant) → slice_get (views_of s.threads) k ≡ Some v → v.park ≡ Asleep want
       → IsServed (limits_in s.readers) (core_of s.word) (has_turn s.word) (has_sleepers s.word) (views_of s.threads) v want
+  -- so where no thread owes a wake-up or is woken, S is set, and the word or T refuses each sleeper
+  pub at_rest : (k : ℕ) (v : ParkView) (want : ExWant) → slice_get (views_of s.threads) k ≡ Some v → v.park ≡ Asleep want
+      → ((j : ℕ) (w : ParkView) → slice_get (views_of s.threads) j ≡ Some w → (w.debt ≡ debt.Nothing) × (is_woken w.park ≡ false))
+      → (has_sleepers s.word ≡ true) × IsRefused (limits_in s.readers) (core_of s.word) (has_turn s.word) v want
   -- where T is set, a thread is in a call that has set it. T is no bit of a mutex
   pub turn_owned : has_turn s.word ≡ true → SomeoneTurns s.threads
   pub no_turn : s.readers ≡ 1 → has_turn s.word ≡ false

@@ -1,6 +1,5 @@
 -- What the steps of a call mean: whatever all other calls do, each step keeps the rule by which no sleeper is forgotten.
-use Rattle.std.specs.Prelude.{◌≡◌, ℕ, ◌%◌, ◌+◌, ◌-◌, ◌^◌, ◌<◌, Bool, true, false, not, ◌&&◌, ◌==◌, if◌then◌else◌, ◌⊎◌, List, [], ◌∷◌, ◌≤◌, map, slice_get, slice_set, Some, ⊤, IsTrue}
-use Rattle.lock_modes.specs.Limits.{IsLimit}
+use Rattle.std.specs.Prelude.{◌≡◌, ℕ, ◌%◌, ◌+◌, ◌-◌, ◌^◌, ◌<◌, Bool, true, false, not, ◌&&◌, ◌==◌, if◌then◌else◌, ◌⊎◌, List, [], ◌∷◌, ◌≤◌, ⊤, IsTrue}
 use Rattle.lock_modes.specs.declared.hold.Hold.{Hold}
 use Rattle.lock_modes.specs.Holds.{hold_has, hold_after}
 use Rattle.lock_word.specs.Word.{amount, step_of_want, step_of_down}
@@ -14,12 +13,11 @@ use Rattle.lock_one.specs.declared.stage.Stage.{Stage}
 use Rattle.lock_one.specs.declared.stage.Stage.TheVariants as stage
 use Rattle.lock_one.specs.declared.park.ParkLimits.{ParkLimits}
 use Rattle.lock_one.specs.declared.park.ParkView.{ParkView}
-use Rattle.lock_one.specs.declared.park.Park.{Park}
-use Rattle.lock_one.specs.declared.park.Park.TheVariants.{Awake, Asleep, Woken}
+use Rattle.lock_one.specs.declared.park.Park.TheVariants.{Awake, Asleep}
 use Rattle.lock_one.specs.declared.park.Debt.{Debt}
 use Rattle.lock_one.specs.declared.park.Debt.TheVariants as debt
-use Rattle.lock_one.specs.Rule.{is_asleep, is_woken, is_shared, IsRefused, IsServed, with_park, with_debt, wake_all, wake_next, wake_turn, KeepsParking}
-use Rattle.lock_one.specs.Machine.{Progress, core_of, has_turn, has_sleepers, sleepers, admits_word, wakes_one, has_slept, is_due, is_exclusive, sets_turn, sleep_of, after_try, word_marked, word_withdrawn, word_released, next_at, next_of}
+use Rattle.lock_one.specs.Rule.{is_asleep, is_woken, is_shared, KeepsParking}
+use Rattle.lock_one.specs.Machine.{Progress, core_of, has_turn, has_sleepers, sleepers, admits_word, wakes_one, has_slept, is_due, is_exclusive, sets_turn, sleep_of, after_try, word_marked, word_withdrawn, word_released, next_of}
 
 -- the word after an action that is made in one atomic step
 abbrev pub made : Action → ℕ → ℕ
@@ -177,89 +175,3 @@ hold_at stage.Ended call before = hold_after before (step_of_down call.down)
 hold_at stage.Refused call before = record before { announced = false }
 hold_at stage.WakeRefused call before = record before { announced = false }
 hold_at waiting call before = record before { announced = call.announced }
-
-abbrev pub lock_and : ParkLimits → ℕ → ParkLimits × ℕ
-lock_and limits sleeps = (limits, sleeps)
-
--- what no step of a call changes but the end of a sleep: its lock, and how often it has slept
-abbrev pub lock_of : Call → ParkLimits × ℕ
-lock_of call = lock_and (limits_of call) call.sleeps
-
-pub record StepKept (limits : ParkLimits) (sleeps : ℕ) (park : Park) (before : Hold) (word : ℕ) (views : List ParkView) (k : ℕ) (next : Progress) : Type 0 where
-  pub you : ParkView
-  pub keeps : Keeps limits word (slice_set views k you)
-  pub at : IsAt next.0.stage next.0 you next.1
-  pub held : you.held ≡ hold_at next.0.stage next.0 before
-  pub parked : (you.park ≡ park) ⊎ (you.park ≡ Awake)
-  pub same_lock : lock_of next.0 ≡ lock_and limits sleeps
-
--- THE LAW: take any word and parties that keep the rule. Let one party make the next action of its call, in one atomic step, and
--- answer the call with what it found. The rule holds again, the party is where its new next action is to be made, and it holds
--- what that stage says
-abbrev pub StepsKeepTheRule : Type 0
-StepsKeepTheRule =
-    (word : ℕ) (views : List ParkView) (k : ℕ) (me : ParkView) (call : Call) (action : Action) (found : ℕ) (before : Hold)
-    → IsLimit call.readers → Keeps (limits_of call) word views → slice_get views k ≡ Some me
-    → IsAt call.stage call me action → me.held ≡ hold_at call.stage call before → is_step call.stage ≡ true → (IsTrue (touches action) → found ≡ word)
-    → StepKept (limits_of call) call.sleeps me.park before (made action word) views k (next_of found call)
-
--- THE LAW OF SLEEP: a party at its park falls asleep where the word is the number that it parks for; a sleep ends at any time; and
--- a wake-up is made. The rule holds again
-pub record SleepsKeepTheRule : Type 0 where
-  pub falls_asleep : (views : List ParkView) (k : ℕ) (me : ParkView) (call : Call) (action : Action)
-      → IsLimit call.readers → Keeps (limits_of call) call.loaded views → slice_get views k ≡ Some me → IsAt stage.Sleep call me action
-      → Keeps (limits_of call) call.loaded (slice_set views k (with_park me (Asleep call.want)))
-      × IsAt stage.Sleep call (with_park me (Asleep call.want)) action
-  pub sleep_ends : (word : ℕ) (views : List ParkView) (k : ℕ) (me : ParkView) (call : Call) (action : Action) (answer : ℕ)
-      → IsLimit call.readers → Keeps (limits_of call) word views → slice_get views k ≡ Some me → IsAt stage.Sleep call me action
-      → Keeps (limits_of call) word (slice_set views k (with_park me Woken))
-      × IsAt stage.Look (next_at stage.Sleep answer call).0 (with_park me Woken) (next_at stage.Sleep answer call).1
-  -- a wake-up of all
-  pub wakes_all : (word : ℕ) (views : List ParkView) (k : ℕ) (me : ParkView) (call : Call)
-      → IsLimit call.readers → Keeps (limits_of call) word views → slice_get views k ≡ Some me → IsAt stage.Wake call me WakeAll
-      → Keeps (limits_of call) word (slice_set (map wake_all views) k (with_debt (wake_all me) debt.Nothing))
-      × IsAt stage.Ended (next_at stage.Wake 0 call).0 (with_debt (wake_all me) debt.Nothing) (next_at stage.Wake 0 call).1
-  pub wakes_all_refused : (word : ℕ) (views : List ParkView) (k : ℕ) (me : ParkView) (call : Call)
-      → IsLimit call.readers → Keeps (limits_of call) word views → slice_get views k ≡ Some me → IsAt stage.WakeRefused call me WakeAll
-      → Keeps (limits_of call) word (slice_set (map wake_all views) k (with_debt (wake_all me) debt.Nothing))
-      × IsAt stage.Refused (next_at stage.WakeRefused 0 call).0 (with_debt (wake_all me) debt.Nothing) (next_at stage.WakeRefused 0 call).1
-  -- of all, after an acquisition that took the turn
-  pub wakes_all_acquired : (word : ℕ) (views : List ParkView) (k : ℕ) (me : ParkView) (call : Call)
-      → IsLimit call.readers → Keeps (limits_of call) word views → slice_get views k ≡ Some me → IsAt stage.WakeAcquired call me WakeAll
-      → Keeps (limits_of call) word (slice_set (map wake_all views) k (with_debt (wake_all me) debt.Nothing))
-      × IsAt stage.Acquired (next_at stage.WakeAcquired 0 call).0 (with_debt (wake_all me) debt.Nothing) (next_at stage.WakeAcquired 0 call).1
-  -- of those that may pass a bar
-  pub wakes_next : (word : ℕ) (views : List ParkView) (k : ℕ) (me : ParkView) (call : Call)
-      → IsLimit call.readers → Keeps (limits_of call) word views → slice_get views k ≡ Some me → IsAt stage.Wake call me WakeNext
-      → Keeps (limits_of call) word (slice_set (map wake_next views) k (with_debt (wake_next me) debt.Nothing))
-      × IsAt stage.Ended (next_at stage.Wake 0 call).0 (with_debt (wake_next me) debt.Nothing) (next_at stage.Wake 0 call).1
-  -- of those and of all readers
-  pub wakes_turn : (word : ℕ) (views : List ParkView) (k : ℕ) (me : ParkView) (call : Call)
-      → IsLimit call.readers → Keeps (limits_of call) word views → slice_get views k ≡ Some me → IsAt stage.Wake call me WakeTurn
-      → Keeps (limits_of call) word (slice_set (map wake_turn views) k (with_debt (wake_turn me) debt.Nothing))
-      × IsAt stage.Ended (next_at stage.Wake 0 call).0 (with_debt (wake_turn me) debt.Nothing) (next_at stage.Wake 0 call).1
-  -- of one that sleeps, or of none if none does
-  pub wakes_one : (word : ℕ) (views : List ParkView) (k j : ℕ) (me w : ParkView) (call : Call) (wish : ExWant)
-      → IsLimit call.readers → Keeps (limits_of call) word views → slice_get views k ≡ Some me → IsAt stage.Wake call me WakeOne
-      → slice_get views j ≡ Some w → w.park ≡ Asleep wish
-      → Keeps (limits_of call) word (slice_set (slice_set views j (with_park w Woken)) k (with_debt me debt.Nothing))
-      × IsAt stage.Ended (next_at stage.Wake 0 call).0 (with_debt me debt.Nothing) (next_at stage.Wake 0 call).1
-  pub wakes_nobody : (word : ℕ) (views : List ParkView) (k : ℕ) (me : ParkView) (call : Call)
-      → IsLimit call.readers → Keeps (limits_of call) word views → slice_get views k ≡ Some me → IsAt stage.Wake call me WakeOne
-      → ((j : ℕ) (v : ParkView) → slice_get views j ≡ Some v → is_asleep v.park ≡ false)
-      → Keeps (limits_of call) word (slice_set views k (with_debt me debt.Nothing))
-      × IsAt stage.Ended (next_at stage.Wake 0 call).0 (with_debt me debt.Nothing) (next_at stage.Wake 0 call).1
-  -- a party that is woken at its park is at its park still
-  pub woken : (call : Call) (v : ParkView) (action : Action) → IsAt stage.Sleep call v action → IsAt stage.Sleep call (with_park v Woken) action
-
--- THE MEANING: at any time, a party that sleeps finds S set on a word that refuses it, or another party owes it a wake-up, or (in a
--- mutex) was woken in its place
-pub record NobodyIsForgotten : Type 0 where
-  pub served : (limits : ParkLimits) (word : ℕ) (views : List ParkView) (k : ℕ) (v : ParkView) (wish : ExWant)
-      → Keeps limits word views → slice_get views k ≡ Some v → v.park ≡ Asleep wish
-      → IsServed limits (core_of word) (has_turn word) (has_sleepers word) views v wish
-  -- so where no party owes a wake-up or is woken, S is set and the word refuses each sleeper
-  pub at_rest : (limits : ParkLimits) (word : ℕ) (views : List ParkView) (k : ℕ) (v : ParkView) (wish : ExWant)
-      → Keeps limits word views → slice_get views k ≡ Some v → v.park ≡ Asleep wish
-      → ((j : ℕ) (w : ParkView) → slice_get views j ≡ Some w → (w.debt ≡ debt.Nothing) × (is_woken w.park ≡ false))
-      → (sleepers ≤ word) × IsRefused limits (core_of word) (has_turn word) v wish

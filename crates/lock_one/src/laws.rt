@@ -1,35 +1,14 @@
 //! The laws of a lock of one word. Each is the contract of a function with an empty body.
 ghost use Rattle.lock_one.specs.Answers.{AnswersMatchHolds, FirstSteps, RefusalsHaveCauses};
 ghost use Rattle.lock_one.specs.Bars.{BarredCallsAreNext};
-ghost use Rattle.lock_one.specs.Rule.{StepsKeepParking};
 ghost use Rattle.lock_one.specs.Runs.{EveryRunIsServed};
-ghost use Rattle.lock_one.specs.Steps.{LastAccess, StepsKeepTheRule, SleepsKeepTheRule, NobodyIsForgotten};
+ghost use Rattle.lock_one.specs.Steps.{LastAccess};
 ghost use Rattle.lock_one.specs.Stored.{StoringKeepsWords};
 ghost use Rattle.lock_one.specs.Turn.{ReadersGetATurn};
-
-/// Each kind of step of any party keeps the rule by which no sleeper is forgotten.
-pub fn steps_keep_parking()
-    ensures { StepsKeepParking }
-{}
 
 /// After the exchange of a release, the call does not access the word. At most a wake-up follows.
 pub fn releases_touch_no_more()
     ensures { LastAccess }
-{}
-
-/// Each step of the machine keeps the rule.
-pub fn steps_keep_the_rule()
-    ensures { StepsKeepTheRule }
-{}
-
-/// Each sleep, its end, and each wake-up keeps the rule.
-pub fn sleeps_keep_the_rule()
-    ensures { SleepsKeepTheRule }
-{}
-
-/// No party that sleeps is forgotten.
-pub fn nobody_is_forgotten()
-    ensures { NobodyIsForgotten }
 {}
 
 /// After any acts of any number of threads on a new lock, what they hold is compatible, and no sleeping thread is forgotten.

@@ -17,8 +17,7 @@ pub use action::{Action, Sleeper};
 pub use call::{Call, SLEEPERS, TURN, alone_word, removes_reader};
 pub use laws::{
     answers_match_holds, barred_calls_are_next, every_run_is_served, first_steps,
-    nobody_is_forgotten, readers_get_a_turn, refusals_have_causes, releases_touch_no_more,
-    sleeps_keep_the_rule, steps_keep_parking, steps_keep_the_rule, storing_keeps_words,
+    readers_get_a_turn, refusals_have_causes, releases_touch_no_more, storing_keeps_words,
 };
 pub use park::{Debt, Park, ParkLimits, ParkView};
 pub use stage::Stage;

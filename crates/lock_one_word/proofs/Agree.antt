@@ -15,7 +15,8 @@ use Rattle.lock_one.specs.declared.park.Park.TheVariants.{Awake}
 use Rattle.lock_one.specs.declared.park.Debt.TheVariants as debt
 use Rattle.lock_one.specs.Machine.{word_marked, next_of}
 use Rattle.lock_one.specs.Runs.{limits_in, debt_at}
-use Rattle.lock_one.specs.Steps.{made, limits_of, IsAt, IsPause, is_step, Keeps, StepKept}
+use Rattle.lock_one.specs.Steps.{made, limits_of, IsAt, IsPause, is_step, Keeps}
+use Rattle.lock_one.proofs.Kept.{StepKept}
 use Rattle.lock_one.proofs.RunViews.{owes_at, same_view}
 use Rattle.lock_one.proofs.Steps.{steps_keep_the_rule}
 use Rattle.lock_one_word.specs.Seats.{placed, Task, IsGoing}

@@ -14,7 +14,7 @@ use Rattle.lock_one.specs.Machine.{Progress, turn, core_of, has_turn, has_sleepe
 use Rattle.lock_one.specs.Rule.{passes_turn}
 use Rattle.lock_one.specs.Steps.{IsAt, is_step}
 use Rattle.lock_one.proofs.RunTurns.{after_small}
-use Rattle.lock_one.proofs.Steps.{encoded_small}
+use Rattle.lock_one.proofs.Words.{encoded_small}
 
 abbrev loaded : Progress → ℕ
 loaded p = p.0.loaded
