@@ -89,18 +89,21 @@ fn step(kind: Code, place: u32, first: u32, second: u32) -> LockStep
     }
 }
 
+/// How many numbers a word of 32 bits has.
+const HALF: u64 = 4_294_967_296;
+
 /// Returns the number that a lock of 32 bits stores for the word.
 fn half_of(word: u64) -> u32
     ensures { result ≡ half_of word }
 {
-    (to_stored(word) % 4_294_967_296) as u32
+    (to_stored(word) % HALF) as u32
 }
 
 /// Returns what a release subtracts from the number of 32 bits, which wraps.
 fn half_amount(down: Down) -> u32
     ensures { result ≡ stored_amount (2 ^ 32) down }
 {
-    (stored_amount(down) % 4_294_967_296) as u32
+    (stored_amount(down) % HALF) as u32
 }
 
 /// Returns the step of a sleeper of this class.

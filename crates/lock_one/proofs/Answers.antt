@@ -1,5 +1,5 @@
 -- What the answer of a call means.
-use Rattle.std.proofs.Common.{◌≡◌, ℕ, ◌-◌, ◌%◌, ◌^◌, ◌<◌, Bool, true, false, not, ◌&&◌, ◌||◌, ◌==◌, nat_lt, if◌then◌else◌, ◌⊎◌, inl, inr, refl, sym, ap, ◌∙◌, arith, lt-ltb, eq-eqb}
+use Rattle.std.proofs.Common.{◌≡◌, ◌≢◌, ℕ, ◌-◌, ◌%◌, ◌^◌, ◌<◌, Bool, true, false, not, ◌&&◌, ◌||◌, ◌==◌, nat_lt, if◌then◌else◌, ◌⊎◌, inl, inr, refl, sym, ap, ◌∙◌, arith, lt-ltb, eq-eqb}
 use Rattle.std.proofs.lemmas.Bool.{false≢true, true≢false}
 use Rattle.lock_modes.specs.declared.hold.Hold.{Hold}
 use Rattle.lock_modes.specs.Holds.{hold_after}
@@ -16,9 +16,9 @@ use Rattle.lock_one.specs.declared.park.ParkView.{ParkView}
 use Rattle.lock_one.specs.declared.park.Debt.{Debt}
 use Rattle.lock_one.specs.declared.park.Debt.TheVariants as debt
 use Rattle.lock_one.specs.Rule.{is_shared, passes_turn}
-use Rattle.lock_one.specs.Machine.{core_of, turn, has_turn, has_sleepers, sleepers, with_turn, with_sleepers, admits_word, class_of, is_brief, takes_turn, won, under_bar, Progress, acquired, after_try, decide, wait, goes_to, acquiring, begun, removes_reader, alone, frees_word, release_on, subtract, taking, wakes, next_at, next_of}
+use Rattle.lock_one.specs.Machine.{wakes_one, has_slept, drops_turn, pauses_before, exchanges_before, word_marked, marked, withdrawn, refused, release_of, release_again, core_of, turn, has_turn, has_sleepers, sleepers, with_turn, with_sleepers, admits_word, class_of, is_brief, takes_turn, won, under_bar, Progress, acquired, after_try, decide, wait, goes_to, acquiring, begun, removes_reader, alone, frees_word, release_on, subtract, taking, wakes, next_at, next_of}
 use Rattle.lock_one.specs.Steps.{IsAt, IsWake, hold_at}
-use Rattle.lock_one.specs.Answers.{AnswersMatchHolds, FirstSteps}
+use Rattle.lock_one.specs.Answers.{releases_at, AnswersMatchHolds, FirstSteps}
 
 -- only these stages end a call
 pub ends_not : (st : Stage) (call : Call) (v : ParkView) (b : Bool) → IsAt st call v (action.End b)
@@ -68,17 +68,78 @@ refused_holds call v before clean is held =
           ]
     ]
 
-done_holds : (call : Call) (v : ParkView) (before : Hold) → IsAt call.stage call v (action.End true) → v.held ≡ hold_at call.stage call before
-    → (v.held ≡ hold_after (record before { announced = call.announced }) (step_of_want call.want)) ⊎ (v.held ≡ hold_after before (step_of_down call.down))
-done_holds call v before is held =
+acquired_holds : (call : Call) (v : ParkView) (before : Hold) → releases_at call.stage ≡ false → IsAt call.stage call v (action.End true)
+    → v.held ≡ hold_at call.stage call before → v.held ≡ hold_after (record before { announced = call.announced }) (step_of_want call.want)
+acquired_holds call v before acquires is held =
     elim (ends_not call.stage call v true is) [
-      | inl acquired ↦ inl (held ∙ ap (λ st. hold_at st call before) acquired.0)
+      | inl acquired ↦ held ∙ ap (λ st. hold_at st call before) acquired.0
       | inr other ↦
           elim other [
             | inl refused ↦ absurd (true≢false refused.1)
-            | inr ended ↦ inr (held ∙ ap (λ st. hold_at st call before) ended.0)
+            | inr ended ↦ absurd (true≢false (sym (ap releases_at ended.0) ∙ acquires))
           ]
     ]
+
+released_holds : (call : Call) (v : ParkView) (before : Hold) → releases_at call.stage ≡ true → IsAt call.stage call v (action.End true)
+    → v.held ≡ hold_at call.stage call before → v.held ≡ hold_after before (step_of_down call.down)
+released_holds call v before releases is held =
+    elim (ends_not call.stage call v true is) [
+      | inl acquired ↦ absurd (false≢true (sym (ap releases_at acquired.0) ∙ releases))
+      | inr other ↦
+          elim other [
+            | inl refused ↦ absurd (true≢false refused.1)
+            | inr ended ↦ held ∙ ap (λ st. hold_at st call before) ended.0
+          ]
+    ]
+
+-- a call goes on as it began
+
+abbrev Kind : Bool → Progress → Type 0
+Kind releases p = releases_at p.0.stage ≡ releases
+
+kind_one_of : (k b : Bool) (p q : Progress) → Kind k p → Kind k q → Kind k (if b then p else q)
+kind_one_of k true p q first second = first
+kind_one_of k false p q first second = second
+
+kind_decided : (word : ℕ) (call : Call) → Kind false (decide word call)
+kind_decided word call =
+    let now : Call = record call { loaded = word } in
+    kind_one_of false (admits_word call.announced call.readers word call.want) _ _ refl
+    (kind_one_of false (not call.blocks) _ _ refl
+    (kind_one_of false call.late _ _
+    (kind_one_of false (call.announced || drops_turn now) _ _ refl (kind_one_of false (wakes_one call && (has_slept call && nat_lt word sleepers)) _ _ refl refl))
+    (kind_one_of false (nat_lt call.pauses pauses_before) _ _ refl (kind_one_of false (word_marked now == word) _ _ refl refl))))
+
+kind_woken : (d : Debt) (call : Call) → Kind true (wakes d call)
+kind_woken debt.Nothing call = refl
+kind_woken debt.One call = refl
+kind_woken debt.All call = refl
+kind_woken debt.Next call = refl
+kind_woken debt.Turn call = refl
+
+kind_kept : (st : Stage) (found : ℕ) (call : Call) → st ≢ stage.Acquired → st ≢ stage.Refused → Kind (releases_at st) (next_at st found call)
+kind_kept stage.Look found call a r = kind_decided found call
+kind_kept stage.Try found call a r =
+    kind_one_of false (found == call.loaded) (won call) _ (kind_one_of false (takes_turn call call.loaded && has_sleepers call.loaded) _ _ refl refl)
+    (kind_decided found call)
+kind_kept stage.Pause found call a r = refl
+kind_kept stage.Mark found call a r = kind_one_of false (found == call.loaded) (marked call) _ refl (kind_decided found call)
+kind_kept stage.Sleep found call a r = refl
+kind_kept stage.Withdraw found call a r =
+    kind_one_of false (found == call.loaded) (withdrawn call) _ (kind_one_of false (has_sleepers call.loaded && not (wakes_one call)) _ _ refl refl)
+    (kind_decided found call)
+kind_kept stage.Leave found call a r = kind_one_of false (found == call.loaded) (refused call) _ refl (kind_decided found call)
+kind_kept stage.LookToRemove found call a r = kind_one_of true (has_sleepers found) (release_on found call) (subtract call) refl refl
+kind_kept stage.Subtract found call a r = kind_woken (release_of call.readers found call.down).1 call
+kind_kept stage.Release found call a r =
+    kind_one_of true (found == call.loaded) _ (release_again found call) (kind_woken (release_of call.readers call.loaded call.down).1 call)
+    (kind_one_of true (nat_lt call.pauses exchanges_before) _ (subtract call) refl refl)
+kind_kept stage.Wake found call a r = refl
+kind_kept stage.WakeRefused found call a r = refl
+kind_kept stage.WakeAcquired found call a r = refl
+kind_kept stage.Acquired found call a r = absurd (a refl)
+kind_kept stage.Refused found call a r = absurd (r refl)
+kind_kept stage.Ended found call a r = refl
 
 -- a decision that refuses was made of a word that refuses
 decided : (call : Call) (found : ℕ) (b : Bool) → admits_word call.announced call.readers found call.want ≡ b
@@ -102,7 +163,16 @@ refuses call found (inr tries) h = by (found == call.loaded) (ap (λ st. (next_a
     by false e = decided call found (admits_word call.announced call.readers found call.want) refl e
 
 pub answers_match_holds : AnswersMatchHolds
-answers_match_holds = record { refused_holds_as_before = refused_holds; done_has_changed = done_holds; word_refuses = refuses }
+answers_match_holds =
+    record {
+      refused_holds_as_before = refused_holds;
+      acquired_has_taken = acquired_holds;
+      released_has_given = released_holds;
+      acquires = λ readers wish blocks announces. refl;
+      releases = λ readers down. kind_one_of true (removes_reader readers down) _ _ refl refl;
+      goes_on = λ found call. kind_kept call.stage found call;
+      word_refuses = refuses;
+    }
 
 -- a word without T and S
 bare_word : (word : ℕ) → word < turn → (core_of word ≡ word) × (has_turn word ≡ false) × (has_sleepers word ≡ false)

@@ -106,31 +106,31 @@ thread_made s after a made =
 step_makes : (s : LockInUse) (k given j : ℕ) (t : Thread) (o : Option Underway) → slice_get s.threads k ≡ Some t → t.underway ≡ o
     → IsPlaced (limits_in s.readers) t.view o → Quiet s (step_in s k given j t o) ⊎ MadeBy s (step_in s k given j t o) (steps k given j)
 step_makes s k given j t None at calls place = inl (refl, refl)
-step_makes s k given j t (Some u) at calls place = by u.at.0.stage refl place.0
+step_makes s k given j t (Some u) at calls place = at_stage u.at.0.stage refl place.0
   where
-    over : (b : Bool) → u.at.1 ≡ action.End b → Quiet s (steps_by s k given t u) ⊎ MadeBy s (steps_by s k given t u) (steps k given j)
-    over b end = absurd (true≢false (sym (ap ends end) ∙ place.3))
+    has_ended : (b : Bool) → u.at.1 ≡ action.End b → Quiet s (steps_by s k given t u) ⊎ MadeBy s (steps_by s k given t u) (steps k given j)
+    has_ended b end = absurd (true≢false (sym (ap ends end) ∙ place.3))
 
-    on : is_step u.at.0.stage ≡ true → Quiet s (steps_by s k given t u) ⊎ MadeBy s (steps_by s k given t u) (steps k given j)
-    on stepping = inr record { number = k; given = given; other = j; act = refl; own = t; underway = u; at = at; calls = calls; stepping = stepping; is = refl }
+    makes_step : is_step u.at.0.stage ≡ true → Quiet s (steps_by s k given t u) ⊎ MadeBy s (steps_by s k given t u) (steps k given j)
+    makes_step stepping = inr record { number = k; given = given; other = j; act = refl; own = t; underway = u; at = at; calls = calls; stepping = stepping; is = refl }
 
-    by : (st : Stage) → u.at.0.stage ≡ st → IsAt st u.at.0 t.view u.at.1 → Quiet s (step_at st s k given j t u) ⊎ MadeBy s (step_at st s k given j t u) (steps k given j)
-    by stage.Look e is = on (ap is_step e)
-    by stage.Try e is = on (ap is_step e)
-    by stage.Pause e is = on (ap is_step e)
-    by stage.Mark e is = on (ap is_step e)
-    by stage.Sleep e is = inl (parks_quietly s k given t u at)
-    by stage.Withdraw e is = on (ap is_step e)
-    by stage.Leave e is = on (ap is_step e)
-    by stage.LookToRemove e is = on (ap is_step e)
-    by stage.Subtract e is = on (ap is_step e)
-    by stage.Release e is = on (ap is_step e)
-    by stage.Wake e is = inl (wakes_quietly s k j t u u.at.1 at)
-    by stage.WakeRefused e is = inl (wakes_quietly s k j t u u.at.1 at)
-    by stage.WakeAcquired e is = inl (wakes_quietly s k j t u u.at.1 at)
-    by stage.Acquired e is = over true is.1
-    by stage.Refused e is = over false is.1
-    by stage.Ended e is = over true is.1
+    at_stage : (st : Stage) → u.at.0.stage ≡ st → IsAt st u.at.0 t.view u.at.1 → Quiet s (step_at st s k given j t u) ⊎ MadeBy s (step_at st s k given j t u) (steps k given j)
+    at_stage stage.Look e is = makes_step (ap is_step e)
+    at_stage stage.Try e is = makes_step (ap is_step e)
+    at_stage stage.Pause e is = makes_step (ap is_step e)
+    at_stage stage.Mark e is = makes_step (ap is_step e)
+    at_stage stage.Sleep e is = inl (parks_quietly s k given t u at)
+    at_stage stage.Withdraw e is = makes_step (ap is_step e)
+    at_stage stage.Leave e is = makes_step (ap is_step e)
+    at_stage stage.LookToRemove e is = makes_step (ap is_step e)
+    at_stage stage.Subtract e is = makes_step (ap is_step e)
+    at_stage stage.Release e is = makes_step (ap is_step e)
+    at_stage stage.Wake e is = inl (wakes_quietly s k j t u u.at.1 at)
+    at_stage stage.WakeRefused e is = inl (wakes_quietly s k j t u u.at.1 at)
+    at_stage stage.WakeAcquired e is = inl (wakes_quietly s k j t u u.at.1 at)
+    at_stage stage.Acquired e is = has_ended true is.1
+    at_stage stage.Refused e is = has_ended false is.1
+    at_stage stage.Ended e is = has_ended true is.1
 
 -- what a step of a thread does
 pub act_makes : (s : LockInUse) (k given i : ℕ) → RunKept s → Quiet s (after_act s (steps k given i)) ⊎ MadeBy s (after_act s (steps k given i)) (steps k given i)

@@ -82,38 +82,38 @@ joins s run =
 
 -- a step
 stepped : (s : LockInUse) (k given j : ℕ) (t : Thread) → slice_get s.threads k ≡ Some t → RunKept s → RunKept (step_in s k given j t t.underway)
-stepped s k given j t at run = by t.underway refl (run.each k t at)
+stepped s k given j t at run = in_call t.underway refl (run.each k t at)
   where
-    on : (u : Underway) → t.underway ≡ Some u → IsPlaced (limits_in s.readers) t.view (Some u) → is_step u.at.0.stage ≡ true → RunKept (steps_by s k given t u)
-    on u calls place stepping =
+    makes_step : (u : Underway) → t.underway ≡ Some u → IsPlaced (limits_in s.readers) t.view (Some u) → is_step u.at.0.stage ≡ true → RunKept (steps_by s k given t u)
+    makes_step u calls place stepping =
         let awake = awake_at u.at.0.stage u.at.0 t.view u.at.1 place.0 stepping in
         step_kept s k given t u at place stepping awake.0 awake.1 run
 
-    over : (u : Underway) (b : Bool) → IsPlaced (limits_in s.readers) t.view (Some u) → u.at.1 ≡ action.End b → RunKept (steps_by s k given t u)
-    over u b place end = absurd (true≢false (sym (ap ends end) ∙ place.3))
+    has_ended : (u : Underway) (b : Bool) → IsPlaced (limits_in s.readers) t.view (Some u) → u.at.1 ≡ action.End b → RunKept (steps_by s k given t u)
+    has_ended u b place end = absurd (true≢false (sym (ap ends end) ∙ place.3))
 
     at_stage : (st : Stage) (u : Underway) → u.at.0.stage ≡ st → t.underway ≡ Some u → IsPlaced (limits_in s.readers) t.view (Some u)
         → IsAt st u.at.0 t.view u.at.1 → t.view.held ≡ hold_at st u.at.0 u.before → RunKept (step_at st s k given j t u)
-    at_stage stage.Look u e calls place is held = on u calls place (ap is_step e)
-    at_stage stage.Try u e calls place is held = on u calls place (ap is_step e)
-    at_stage stage.Pause u e calls place is held = on u calls place (ap is_step e)
-    at_stage stage.Mark u e calls place is held = on u calls place (ap is_step e)
+    at_stage stage.Look u e calls place is held = makes_step u calls place (ap is_step e)
+    at_stage stage.Try u e calls place is held = makes_step u calls place (ap is_step e)
+    at_stage stage.Pause u e calls place is held = makes_step u calls place (ap is_step e)
+    at_stage stage.Mark u e calls place is held = makes_step u calls place (ap is_step e)
     at_stage stage.Sleep u e calls place is held = park_kept s k given t u at is held place.2 place.4 e calls run
-    at_stage stage.Withdraw u e calls place is held = on u calls place (ap is_step e)
-    at_stage stage.Leave u e calls place is held = on u calls place (ap is_step e)
-    at_stage stage.Release u e calls place is held = on u calls place (ap is_step e)
-    at_stage stage.LookToRemove u e calls place is held = on u calls place (ap is_step e)
-    at_stage stage.Subtract u e calls place is held = on u calls place (ap is_step e)
+    at_stage stage.Withdraw u e calls place is held = makes_step u calls place (ap is_step e)
+    at_stage stage.Leave u e calls place is held = makes_step u calls place (ap is_step e)
+    at_stage stage.Release u e calls place is held = makes_step u calls place (ap is_step e)
+    at_stage stage.LookToRemove u e calls place is held = makes_step u calls place (ap is_step e)
+    at_stage stage.Subtract u e calls place is held = makes_step u calls place (ap is_step e)
     at_stage stage.Wake u e calls place is held = wake_kept s k j t u u.at.1 at is held place.2 place.4 e run
     at_stage stage.WakeRefused u e calls place is held = refused_kept s k j t u at is held place.2 place.4 e run
     at_stage stage.WakeAcquired u e calls place is held = acquired_kept s k j t u at is held place.2 place.4 e run
-    at_stage stage.Acquired u e calls place is held = over u true place is.1
-    at_stage stage.Refused u e calls place is held = over u false place is.1
-    at_stage stage.Ended u e calls place is held = over u true place is.1
+    at_stage stage.Acquired u e calls place is held = has_ended u true place is.1
+    at_stage stage.Refused u e calls place is held = has_ended u false place is.1
+    at_stage stage.Ended u e calls place is held = has_ended u true place is.1
 
-    by : (o : Option Underway) → t.underway ≡ o → IsPlaced (limits_in s.readers) t.view o → RunKept (step_in s k given j t o)
-    by None e place = run
-    by (Some u) e place = at_stage u.at.0.stage u refl e place place.0 place.1
+    in_call : (o : Option Underway) → t.underway ≡ o → IsPlaced (limits_in s.readers) t.view o → RunKept (step_in s k given j t o)
+    in_call None e place = run
+    in_call (Some u) e place = at_stage u.at.0.stage u refl e place place.0 place.1
 
 step_by_kept : (s : LockInUse) (k given j : ℕ) (o : Option Thread) → slice_get s.threads k ≡ o → RunKept s → RunKept (step_by s k given j o)
 step_by_kept s k given j None at run = run
@@ -147,7 +147,7 @@ parked_as false n m p q b c e = cc
 
 -- each sleeper is in its park
 in_park : (limits : ParkLimits) (t : Thread) → IsPlaced limits t.view t.underway → is_asleep t.view.park ≡ true → IsInPark t
-in_park limits t place asleep = by t.underway refl place
+in_park limits t place asleep = in_call t.underway refl place
   where
     at_stage : (st : Stage) (u : Underway) → t.view.held ≡ hold_at u.at.0.stage u.at.0 u.before → u.at.0.stage ≡ st → t.underway ≡ Some u
         → IsAt st u.at.0 t.view u.at.1 → IsInPark t
@@ -179,32 +179,32 @@ in_park limits t place asleep = by t.underway refl place
     at_stage stage.Refused u held e calls is = absurd (true≢false (sym asleep ∙ ap is_asleep is.0.0))
     at_stage stage.Ended u held e calls is = absurd (true≢false (sym asleep ∙ ap is_asleep is.0.0))
 
-    by : (o : Option Underway) → t.underway ≡ o → IsPlaced limits t.view o → IsInPark t
-    by None e place = absurd (true≢false (sym asleep ∙ ap is_asleep place.0.0))
-    by (Some u) e place = at_stage u.at.0.stage u place.1 refl e place.0
+    in_call : (o : Option Underway) → t.underway ≡ o → IsPlaced limits t.view o → IsInPark t
+    in_call None e place = absurd (true≢false (sym asleep ∙ ap is_asleep place.0.0))
+    in_call (Some u) e place = at_stage u.at.0.stage u place.1 refl e place.0
 
 -- a call that has set the bar was due to
 due_at : (st : Stage) (u : Underway) (v : ParkView) → IsAt st u.at.0 v u.at.1 → v.held ≡ hold_at st u.at.0 u.before → u.before.announced ≡ false
     → v.held.announced ≡ true → is_due u.at.0 ≡ true
-due_at st u v is held clean own = by st is (ap (λ (h : Hold). h.announced) (sym held) ∙ own)
+due_at st u v is held clean own = due_in st is (ap (λ (h : Hold). h.announced) (sym held) ∙ own)
   where
-    by : (st : Stage) → IsAt st u.at.0 v u.at.1 → (hold_at st u.at.0 u.before).announced ≡ true → is_due u.at.0 ≡ true
-    by stage.Look is bar = is.0.0.patient (is.0.0.bar ∙ own)
-    by stage.Try is bar = is.0.0.patient (is.0.0.bar ∙ own)
-    by stage.Pause is bar = is.0.0.patient (is.0.0.bar ∙ own)
-    by stage.Mark is bar = is.0.0.patient (is.0.0.bar ∙ own)
-    by stage.Sleep is bar = is.0.patient (is.0.bar ∙ own)
-    by stage.Withdraw is bar = is.0.0.patient (is.0.0.bar ∙ own)
-    by stage.Leave is bar = is.0.0.patient (is.0.0.bar ∙ own)
-    by stage.LookToRemove is bar = absurd (false≢true (sym clean ∙ bar))
-    by stage.Subtract is bar = absurd (false≢true (sym clean ∙ bar))
-    by stage.Release is bar = absurd (false≢true (sym clean ∙ bar))
-    by stage.Wake is bar = absurd (false≢true (sym (bare_after u.before clean u.at.0.down) ∙ bar))
-    by stage.WakeRefused is bar = absurd (false≢true bar)
-    by stage.WakeAcquired is bar = absurd (false≢true (sym is.3 ∙ own))
-    by stage.Acquired is bar = absurd (false≢true (sym is.2 ∙ own))
-    by stage.Refused is bar = absurd (false≢true bar)
-    by stage.Ended is bar = absurd (false≢true (sym (bare_after u.before clean u.at.0.down) ∙ bar))
+    due_in : (st : Stage) → IsAt st u.at.0 v u.at.1 → (hold_at st u.at.0 u.before).announced ≡ true → is_due u.at.0 ≡ true
+    due_in stage.Look is bar = is.0.0.patient (is.0.0.bar ∙ own)
+    due_in stage.Try is bar = is.0.0.patient (is.0.0.bar ∙ own)
+    due_in stage.Pause is bar = is.0.0.patient (is.0.0.bar ∙ own)
+    due_in stage.Mark is bar = is.0.0.patient (is.0.0.bar ∙ own)
+    due_in stage.Sleep is bar = is.0.patient (is.0.bar ∙ own)
+    due_in stage.Withdraw is bar = is.0.0.patient (is.0.0.bar ∙ own)
+    due_in stage.Leave is bar = is.0.0.patient (is.0.0.bar ∙ own)
+    due_in stage.LookToRemove is bar = absurd (false≢true (sym clean ∙ bar))
+    due_in stage.Subtract is bar = absurd (false≢true (sym clean ∙ bar))
+    due_in stage.Release is bar = absurd (false≢true (sym clean ∙ bar))
+    due_in stage.Wake is bar = absurd (false≢true (sym (bare_after u.before clean u.at.0.down) ∙ bar))
+    due_in stage.WakeRefused is bar = absurd (false≢true bar)
+    due_in stage.WakeAcquired is bar = absurd (false≢true (sym is.3 ∙ own))
+    due_in stage.Acquired is bar = absurd (false≢true (sym is.2 ∙ own))
+    due_in stage.Refused is bar = absurd (false≢true bar)
+    due_in stage.Ended is bar = absurd (false≢true (sym (bare_after u.before clean u.at.0.down) ∙ bar))
 
 -- each sleeper is in its park, and a call with a bar was due
 pub sleeper_in_park : (s : LockInUse) → RunKept s → (k : ℕ) (t : Thread) → slice_get s.threads k ≡ Some t → is_asleep t.view.park ≡ true → IsInPark t

@@ -82,13 +82,13 @@ encoded_small core false false small = omega arith
 pub bit_of : (word : ℕ) → sleepers ≤ word → has_sleepers word ≡ true
 bit_of word high = high_is word (2 ^ 36) high
 
-on : (b : Bool) → not b ≡ false → b ≡ true
-on true e = refl
-on false e = absurd (true≢false e)
+is_on : (b : Bool) → not b ≡ false → b ≡ true
+is_on true e = refl
+is_on false e = absurd (true≢false e)
 
-off : (b : Bool) → not b ≡ true → b ≡ false
-off true e = absurd (false≢true e)
-off false e = refl
+is_off : (b : Bool) → not b ≡ true → b ≡ false
+is_off true e = absurd (false≢true e)
+is_off false e = refl
 
 -- T, as a bit of the word
 pub turn_is : (word : ℕ) → has_turn word ≡ true → 2 ^ 35 ≤ word % 2 ^ 36
@@ -109,10 +109,10 @@ pub decoded : (word : ℕ) → word < 2 ^ 37 → encoded (core_of word) (has_tur
 decoded word small = by (has_turn word) (has_sleepers word) refl refl
   where
     by : (t s : Bool) → has_turn word ≡ t → has_sleepers word ≡ s → encoded (core_of word) t s ≡ word
-    by true true et es = let high = turn_is word et in let big = not_below word (2 ^ 36) (off (nat_lt word (2 ^ 36)) es) in omega arith
-    by true false et es = let high = turn_is word et in let low = ltb-true word (2 ^ 36) (on (nat_lt word (2 ^ 36)) es) in omega arith
-    by false true et es = let low_t = turn_clear word et in let big = not_below word (2 ^ 36) (off (nat_lt word (2 ^ 36)) es) in omega arith
-    by false false et es = let low_t = turn_clear word et in let low = ltb-true word (2 ^ 36) (on (nat_lt word (2 ^ 36)) es) in omega arith
+    by true true et es = let high = turn_is word et in let big = not_below word (2 ^ 36) (is_off (nat_lt word (2 ^ 36)) es) in omega arith
+    by true false et es = let high = turn_is word et in let low = ltb-true word (2 ^ 36) (is_on (nat_lt word (2 ^ 36)) es) in omega arith
+    by false true et es = let low_t = turn_clear word et in let big = not_below word (2 ^ 36) (is_off (nat_lt word (2 ^ 36)) es) in omega arith
+    by false false et es = let low_t = turn_clear word et in let low = ltb-true word (2 ^ 36) (is_on (nat_lt word (2 ^ 36)) es) in omega arith
 
 -- the word without T
 pub dropped : (word : ℕ) → word < 2 ^ 37 → has_turn word ≡ true → encoded (core_of word) false (has_sleepers word) ≡ word - turn
@@ -148,7 +148,7 @@ refusal_of a limit word wish refuses =
           (let rest : (not (has_turn word) || passes_turn a wish) ≡ false
           = sym (ap (λ b. b && (not (has_turn word) || passes_turn a wish)) yes_it) ∙ refuses in
           let two = or_parts (not (has_turn word)) (passes_turn a wish) rest in
-          inr (on (has_turn word) two.0, two.1))
+          inr (is_on (has_turn word) two.0, two.1))
     ]
 
 pub core_refuses_it : (a : Bool) (limit word : ℕ) (wish : ExWant) → word_admits a limit (core_of word) wish ≡ false → admits_word a limit word wish ≡ false

@@ -1,5 +1,5 @@
 -- What the answer of a call means, and the first steps of an uncontended call.
-use Rattle.std.specs.Prelude.{◌≡◌, ℕ, ◌-◌, ◌<◌, Bool, true, false, ◌⊎◌, ⊤}
+use Rattle.std.specs.Prelude.{◌≡◌, ◌≢◌, ℕ, ◌-◌, ◌<◌, Bool, true, false, ◌⊎◌, ⊤}
 use Rattle.lock_modes.specs.declared.hold.Hold.{Hold}
 use Rattle.lock_modes.specs.Holds.{hold_after}
 use Rattle.lock_word.specs.declared.want.ExWant.{ExWant}
@@ -13,14 +13,31 @@ use Rattle.lock_one.specs.declared.park.ParkView.{ParkView}
 use Rattle.lock_one.specs.Machine.{turn, sleepers, admits_word, acquiring, removes_reader, alone, taking, next_of}
 use Rattle.lock_one.specs.Steps.{IsAt, hold_at}
 
+-- whether a call at this stage releases. One that acquires is at none of these stages up to its end
+abbrev pub releases_at : Stage → Bool
+releases_at stage.LookToRemove = true
+releases_at stage.Subtract = true
+releases_at stage.Release = true
+releases_at stage.Wake = true
+releases_at stage.Ended = true
+releases_at acquiring = false
+
 -- THE LAW OF ANSWERS
 pub record AnswersMatchHolds : Type 0 where
   -- a refused call has changed nothing that its party holds, and has left no bar
   pub refused_holds_as_before : (call : Call) (v : ParkView) (before : Hold) → before.announced ≡ false
       → IsAt call.stage call v (End false) → v.held ≡ hold_at call.stage call before → v.held ≡ before
-  -- a call that was not refused has made its change
-  pub done_has_changed : (call : Call) (v : ParkView) (before : Hold) → IsAt call.stage call v (End true) → v.held ≡ hold_at call.stage call before
-      → (v.held ≡ hold_after (record before { announced = call.announced }) (step_of_want call.want)) ⊎ (v.held ≡ hold_after before (step_of_down call.down))
+  -- a call that acquires, and was not refused, holds what it wanted
+  pub acquired_has_taken : (call : Call) (v : ParkView) (before : Hold) → releases_at call.stage ≡ false → IsAt call.stage call v (End true)
+      → v.held ≡ hold_at call.stage call before → v.held ≡ hold_after (record before { announced = call.announced }) (step_of_want call.want)
+  -- one that releases has given its down
+  pub released_has_given : (call : Call) (v : ParkView) (before : Hold) → releases_at call.stage ≡ true → IsAt call.stage call v (End true)
+      → v.held ≡ hold_at call.stage call before → v.held ≡ hold_after before (step_of_down call.down)
+  -- a call acquires or releases from its begin to its end
+  pub acquires : (readers : ℕ) (wish : ExWant) (blocks announces : Bool) → releases_at (acquiring readers wish blocks announces).0.stage ≡ false
+  pub releases : (readers : ℕ) (down : Down) → releases_at (taking readers down).0.stage ≡ true
+  pub goes_on : (found : ℕ) (call : Call) → call.stage ≢ stage.Acquired → call.stage ≢ stage.Refused
+      → releases_at (next_of found call).0.stage ≡ releases_at call.stage
   -- a try is refused only by a word that refuses it
   pub word_refuses : (call : Call) (found : ℕ) → (call.stage ≡ stage.Look) ⊎ (call.stage ≡ stage.Try)
       → (next_of found call).1 ≡ End false → admits_word call.announced call.readers found call.want ≡ false

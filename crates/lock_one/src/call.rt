@@ -14,6 +14,9 @@ pub const TURN: u64 = 34_359_738_368;
 /// The bit of sleepers.
 pub const SLEEPERS: u64 = 68_719_476_736;
 
+/// The bit of an upgradable token.
+const UPGRADABLE: u64 = 4_294_967_296;
+
 /// The bit of an exclusive token.
 const EXCLUSIVE: u64 = 8_589_934_592;
 
@@ -507,7 +510,7 @@ pub fn alone_word(down: Down) -> u64
     match down {
         Down::Shared => 1,
         Down::Exclusive | Down::ToShared | Down::ToUpgradable => EXCLUSIVE,
-        Down::Upgradable | Down::UpgradableToShared => 4_294_967_297,
+        Down::Upgradable | Down::UpgradableToShared => UPGRADABLE + 1,
         Down::Withdraw => BAR,
     }
 }

@@ -30,8 +30,8 @@ pub fn readers_get_a_turn()
     ensures { ReadersGetATurn }
 {}
 
-/// A call that ends with false has changed nothing, and one that ends with true has made its change. A try ends with false
-/// only on a word that refuses it.
+/// A call that ends with false has changed nothing. One that acquires ends with true where it has taken what it wants, and
+/// one that releases where it has given its hold. A try ends with false only on a word that refuses it.
 pub fn answers_match_holds()
     ensures { AnswersMatchHolds }
 {}

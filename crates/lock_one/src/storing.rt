@@ -4,20 +4,23 @@ ghost use Rattle.lock_one.specs.Stored.{stored_amount, stored_of, word_of_stored
 
 use lock_word::Down;
 
+/// The place of the first flag of a word.
+const FLAGS: u64 = 4_294_967_296;
+
 /// Returns the number that a lock stores for the word: the flags are its bits 0 to 4, and the readers follow.
 ///
 /// A park compares the low 32 bits, so these hold the flags and 27 bits of readers.
 pub fn to_stored(word: u64) -> u64
     ensures { result ≡ stored_of word }
 {
-    word / 4_294_967_296 + 32 * (word % 4_294_967_296)
+    word / FLAGS + 32 * (word % FLAGS)
 }
 
 /// Returns the word that the number stores.
 pub fn from_stored(stored: u64) -> u64
     ensures { result ≡ word_of_stored stored }
 {
-    stored / 32 + 4_294_967_296 * (stored % 32)
+    stored / 32 + FLAGS * (stored % 32)
 }
 
 /// Returns what a release subtracts from the stored word, modulo 2^64. Modulo 2^32 the same bits serve a word of 32 bits.
