@@ -10,7 +10,7 @@ use Rattle.lock_plan.specs.declared.program.Act.{Act}
 use Rattle.lock_plan.specs.declared.program.Act.TheVariants.{Call, Try, Choose, Signal}
 use Rattle.lock_plan.specs.declared.program.ProgramPlace.{ProgramPlace}
 use Rattle.lock_plan.specs.declared.program.Signal.{Signal as PlanSignal}
-use Rattle.lock_plan.specs.declared.program.Signal.TheVariants.{Idle, Sleep, Start, Clear, Join, Assert, NotifyOne, NotifyAll}
+use Rattle.lock_plan.specs.declared.program.Signal.TheVariants.{Idle, Sleep, Start, Join, Add, Take, Set, AssertAtLeast, NotifyOne, NotifyAll}
 use Rattle.lock_plan.specs.declared.turn.LockHolds.{LockHolds}
 use Rattle.lock_plan.specs.Holds.{turn_on}
 use Rattle.lock_plan.specs.Known.{PlaceFault, Known, known_of}
@@ -47,12 +47,14 @@ call_never_waits locks programs party own call =
 
 -- whether a signal goes on at once, wherever the other rows are
 abbrev pub signal_never_waits : PlanSignal → Bool
-signal_never_waits Idle = false
+signal_never_waits (Idle value) = false
 signal_never_waits (Sleep cond) = false
 signal_never_waits (Start row) = true
-signal_never_waits (Clear row) = true
 signal_never_waits (Join row) = false
-signal_never_waits (Assert row value) = false
+signal_never_waits (Add row most) = false
+signal_never_waits (Take row) = false
+signal_never_waits (Set row place) = true
+signal_never_waits (AssertAtLeast row number value) = false
 signal_never_waits (NotifyOne cond) = true
 signal_never_waits (NotifyAll cond) = true
 

@@ -1,4 +1,4 @@
--- Scenes: the machine of guards of each lock of a plan, and the place of each row. Rows are the parties and the flags.
+-- Scenes: the machine of guards of each lock of a plan, and the place of each row. Rows are the parties and the counters.
 use Rattle.std.specs.Prelude.{◌≡◌, ℕ, Bool, true, false, ◌==◌, ◌⊎◌, if◌then◌else◌, List, [], ◌∷◌, map, zip, set, Option, Some}
 use Rattle.std.proofs.Common.{get_or}
 use Rattle.lock_modes.specs.declared.kind.Kind.{Kind}
@@ -14,11 +14,11 @@ use Rattle.lock_plan.specs.declared.program.Act.TheVariants as act
 use Rattle.lock_plan.specs.declared.program.Block.{Block}
 use Rattle.lock_plan.specs.declared.program.ProgramPlace.{ProgramPlace}
 use Rattle.lock_plan.specs.declared.program.Signal.{Signal}
-use Rattle.lock_plan.specs.declared.program.Signal.TheVariants.{Assert}
+use Rattle.lock_plan.specs.declared.program.Signal.TheVariants.{AssertAtLeast}
 use Rattle.lock_plan.specs.declared.program.Step.{Step}
 use Rattle.lock_plan.specs.declared.turn.Turn.{Turn}
 use Rattle.lock_plan.specs.declared.turn.Turn.TheVariants.{Goes, Announces, Waits, Refused}
-use Rattle.lock_plan.specs.Signals.{idles, has_value, lets}
+use Rattle.lock_plan.specs.Signals.{idles, is_so, lets}
 use Rattle.lock_plan.specs.Worlds.{Stand, no_lock, act_in, next_in, other_in, acts_of, rows_moved, is_server}
 use Rattle.lock_plan_laws.specs.MachineTurns.{Names, is_made, machine_turn, machine_try}
 
@@ -80,12 +80,12 @@ module _ {T : Type 0} (programs : List (List ProgramPlace)) where
   scene_moved s moving way =
       record { machines = s.machines; places = map (λ row. row.place) (rows_moved moving way 0 (rows_of s)) }
 
-  -- the choice of a party: the rows permit its way; no machine changes
+  -- the choice of a party: the rows permit its way; it may move rows, and no machine changes
   pub record HasChoice (s : Scene T) (c : Caller) (after : Scene T) : Type 0 where
     pub block : Block
     pub here : act_at s c.party ≡ Some (act.Choose block)
     pub is_let : lets (acts_of (rows_of s)) c.way (Some (act.Choose block)) ≡ true
-    pub leaves : after ≡ scene_at s c.party (way_of s c.step)
+    pub leaves : after ≡ scene_at (scene_moved s (Some (act.Choose block)) c.way) c.party (way_of s c.step)
 
   -- the signal of a party: the rows permit its way; it may move rows, and no machine changes
   pub record HasSignal (s : Scene T) (c : Caller) (after : Scene T) : Type 0 where
@@ -99,9 +99,10 @@ module _ {T : Type 0} (programs : List (List ProgramPlace)) where
   pub record HasFalseAssertion (s : Scene T) : Type 0 where
     pub party : ℕ
     pub row : ℕ
+    pub number : ℕ
     pub value : Bool
-    pub here : act_at s party ≡ Some (act.Signal (Assert row value))
-    pub is_false : has_value (acts_of (rows_of s)) row value ≡ false
+    pub here : act_at s party ≡ Some (act.Signal (AssertAtLeast row number value))
+    pub is_false : is_so (acts_of (rows_of s)) row number value ≡ false
 
 -- the limit of the machine of a lock
 abbrev pub limit_for : Kind → ℕ → ℕ

@@ -32,7 +32,7 @@ fn first_uncovered(programs: &[Vec<ProgramPlace>]) -> Option<Obstacle> {
     for party in 0..programs.len() {
         for place in 0..programs[party].len() {
             let act = programs[party][place].act;
-            if act == Act::Signal(Signal::Idle) {
+            if matches!(act, Act::Signal(Signal::Idle(_))) {
                 idle = Some(Obstacle::Uncovered(party, place));
             } else if !covers_act(act) {
                 return Some(Obstacle::Uncovered(party, place));
