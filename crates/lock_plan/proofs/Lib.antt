@@ -5,10 +5,10 @@ pub mod Leads
 pub mod AnyOf
 pub mod EachBelow
 pub mod Held
+pub mod Counters
 pub mod Walked
 pub mod Announced
 pub mod Stands
-pub mod Flags
 pub mod Places
 pub mod Few
 pub mod Arrivals

@@ -12,6 +12,7 @@ use Rattle.lock_plan.specs.declared.lock.PlanLock.{PlanLock}
 use Rattle.lock_plan.specs.declared.program.Act.{Act}
 use Rattle.lock_plan.specs.declared.program.Act.TheVariants.{Call, Try, Choose, Signal}
 use Rattle.lock_plan.specs.declared.program.Signal.{Signal as PlanSignal}
+use Rattle.lock_plan.specs.declared.program.Signal.TheVariants.{Idle}
 use Rattle.lock_plan.specs.declared.program.ProgramPlace.{ProgramPlace}
 use Rattle.lock_plan.specs.declared.program.Step.{Step}
 use Rattle.lock_plan.specs.declared.turn.Turn.{Turn}
@@ -21,11 +22,11 @@ use Rattle.lock_plan.specs.declared.fault.CallFault.TheVariants.{UnknownLock}
 use Rattle.lock_plan.specs.CallFaults.{call_fault, fault_on}
 use Rattle.lock_plan.specs.Known.{Known, known_of}
 use Rattle.lock_plan.specs.Holds.{announces_itself}
-use Rattle.lock_plan.specs.Signals.{lets}
+use Rattle.lock_plan.specs.Signals.{idles, lets}
 use Rattle.lock_plan.specs.Worlds.{Stand, no_stand, no_lock, act_of, acts_of, call_in, next_in, other_in, lock_holds, reply_to, reply_at, at_place, gone, announced_for, after_call, is_goes, either_by, stand_by, put_stand, rows_moved, world_by, world_step, world_after, first_stand, first_world}
 use Rattle.lock_plan.proofs.ExchangeBars.{set_cases, nothing_held, on_parts}
 use Rattle.lock_plan.proofs.Landing.{announcing, some_same, goes_is}
-use Rattle.lock_plan.proofs.Moves.{rows_still}
+use Rattle.lock_plan.proofs.Moves.{rows_still, rows_awake}
 use Rattle.lock_plan.proofs.Ways.{only_some}
 use Rattle.lock_plan_laws.proofs.KnownStands.{no_fault, known_gone, known_announced, known_passed, known_chosen, known_first}
 use Rattle.lock_plan_laws.proofs.CoveredStands.{IsStandOf, IsCoveredAt, bag_same, fine}
@@ -36,6 +37,10 @@ stand_same t u e = cc
 
 abbrev pub Lock : List PlanLock → ℕ → PlanLock
 Lock locks l = get_or locks l no_lock
+
+no_idle : (here : Option Act) → ((signal : PlanSignal) → here ≡ Some (Signal signal) → ⊥) → idles here ≡ false
+no_idle (Some (Signal (Idle value))) never = absurd (never (Idle value) refl)
+no_idle here never = refl
 
 known_lock : (b : Bool) (o : Option CallFault) → (if b then o else Some UnknownLock) ≡ None → o ≡ None
 known_lock true o e = e
@@ -221,6 +226,23 @@ module _ (locks : List PlanLock) (programs : List (List ProgramPlace)) (known : 
       let same : set w p t ≡ v = cc in
       subst AreCovered same (put w all p lt t (h t refl))
 
+  -- no row idles, so no act moves another row
+  rows_stay : (w : List Stand) (all : AreCovered w) (p way : ℕ) → p < length w → (a : Act) → act_of (get_or w p no_stand) ≡ Some a
+      → rows_moved (Some a) way 0 w ≡ w
+  rows_stay w all p way lt a here = by_kind a here
+    where
+      never : (q : ℕ) → q < length w → (signal : PlanSignal) → act_of (get_or w q no_stand) ≡ Some (Signal signal) → ⊥
+      never q below signal is =
+          (fine locks (get_or w q no_stand) (known q) (get_or programs q []) (all.stand q below)
+          (covered q (omega (arith, below, all.many)))).no_signal signal is
+
+      by_kind : (a : Act) → act_of (get_or w p no_stand) ≡ Some a → rows_moved (Some a) way 0 w ≡ w
+      by_kind (Call call) here = rows_still (Some (Call call)) way 0 w refl
+      by_kind (Try call) here = rows_still (Some (Try call)) way 0 w refl
+      by_kind (Choose block) here =
+          rows_awake block way 0 w (λ q below. no_idle (act_of (get_or w q no_stand)) (never q below))
+      by_kind (Signal signal) here = absurd (never p lt signal here)
+
   -- the act of a party with this number and act
   by_act : (w v : List Stand) (step : Step) (here : Option Act) (all : AreCovered w) → act_of (get_or w step.party no_stand) ≡ here
       → put_stand (rows_moved here step.way 0 w) step.party
@@ -235,9 +257,7 @@ module _ (locks : List PlanLock) (programs : List (List ProgramPlace)) (known : 
       let p = step.party in
       let x : Stand = get_or w p no_stand in
       let after : Option Stand = stand_by x (step.way == 1) (Some act) (reply_at locks (map (λ (s : Stand). s.holds) w) p (Some act)) in
-      let f = fine locks x (known p) (get_or programs p []) (all.stand p lt) (covered p (omega (arith, lt, all.many))) in
-      let still : rows_moved (Some act) step.way 0 w ≡ w =
-      rows_still act step.way 0 w (λ signal is. f.no_signal signal (a ∙ ap (λ (b : Act). Some b) is)) in
+      let still : rows_moved (Some act) step.way 0 w ≡ w = rows_stay w all p step.way lt act a in
       put_covered w v all p lt after
       (λ t is. stand_fits w all p lt (step.way == 1) (Some act) t a is)
       (ap (λ (u : List Stand). put_stand u p after) (sym still) ∙ e)

@@ -17,13 +17,13 @@ use Rattle.lock_plan.specs.declared.program.Act.{Act}
 use Rattle.lock_plan.specs.declared.program.Act.TheVariants.{Call, Try, Choose, Signal}
 use Rattle.lock_plan.specs.declared.program.Block.{Block}
 use Rattle.lock_plan.specs.declared.program.Signal.{Signal as PlanSignal}
-use Rattle.lock_plan.specs.declared.program.Signal.TheVariants.{Idle}
 use Rattle.lock_plan.specs.declared.program.ProgramPlace.{ProgramPlace}
 use Rattle.lock_plan.specs.Holds.{is_write, announces_itself}
 use Rattle.lock_plan.specs.CallFaults.{fault_on, call_fault}
 use Rattle.lock_plan.specs.Known.{Known, known_at, known_of}
-use Rattle.lock_plan.specs.Worlds.{Stand, no_lock, act_in, act_of, call_in, next_in, other_in, is_flag, holds_after, at_place, gone, announced_for, first_stand}
-use Rattle.lock_plan.proofs.Flags.{IsFlag, flag_is}
+use Rattle.lock_plan.specs.Signals.{idles}
+use Rattle.lock_plan.specs.Worlds.{Stand, no_lock, act_in, act_of, call_in, next_in, other_in, is_counter, values_of, holds_after, at_place, gone, announced_for, first_stand}
+use Rattle.lock_plan.proofs.Counters.{counter_is}
 use Rattle.lock_plan.proofs.Held.{IsHeld, few_announced}
 use Rattle.lock_plan.proofs.Walked.{IsWalked, Passed, Leaves, act_there, walked_is}
 use Rattle.lock_plan.proofs.Announced.{Announces, announces, once, goes_same}
@@ -209,39 +209,23 @@ module _ (locks : List PlanLock) where
       by_stand (inl is) = (plain_leaves x k (Signal signal) e is).signals signal refl
       by_stand (inr ahead) = let calls = ahead.here in cc
 
-  -- a flag holds the same at its place and at its end, so it can go back
-  pub known_restarted : (x : Stand) → IsKnownStand locks x → is_flag x.program ≡ true
-      → IsKnownStand locks (at_place x 0 x.holds)
-  known_restarted x k flag = record { known = k.known; walked = k.walked; is = inl (by_stand k.is) }
+  -- a counter holds nothing, so it can stand at each of its places
+  pub known_counted : (x : Stand) → IsKnownStand locks x → (place : ℕ) → idles (act_of x) ≡ true
+      → nat_lt place (values_of x.program) ≡ true → IsKnownStand locks (at_place x place x.holds)
+  known_counted x k place idle e = record { known = k.known; walked = k.walked; is = inl (by_stand k.is) }
     where
-      f : IsFlag x.program
-      f = flag_is x.program flag
+      counter : (is_counter x.program ≡ true) × (place < length x.program)
+      counter = counter_is x.program place e
 
-      first : Passed locks x.program 0 k.known
-      first = k.walked.passed 0 (omega (arith, f.long))
+      there : Passed locks x.program place k.known
+      there = k.walked.passed place counter.1
 
-      at_end : known_at k.known 1 ≡ Some first.holds
-      at_end =
-          ap (known_at k.known) (sym f.next)
-          ∙ first.leaves.signals Idle (act_there x.program 0 (Signal Idle) f.idle).1
-
-      same : (place : ℕ) → known_at k.known place ≡ Some x.holds → known_at k.known 0 ≡ Some x.holds
-      same zero is = is
-      same (suc zero) is = first.is ∙ sym at_end ∙ is
-      same (suc (suc n)) is =
-          let past : known_at k.known (suc (suc n)) ≡ None =
-          get_or_past k.known (suc (suc n)) None (omega (arith, k.walked.long, f.long)) in
-          let none : None ≡ Some x.holds = sym past ∙ is in
-          cc
-
-      by_stand : (known_at k.known x.place ≡ Some x.holds) ⊎ IsAhead locks k.known x → known_at k.known 0 ≡ Some x.holds
-      by_stand (inl is) = same x.place is
-      by_stand (inr ahead) =
-          let there = act_there x.program x.place (Call ahead.call) ahead.here in
-          let calls : act_in x.program 0 ≡ Some (Call ahead.call) =
-          ap (act_in x.program) (omega (arith, there.0, f.long)) ∙ ahead.here in
-          let idle = f.idle in
-          cc
+      by_stand : (known_at k.known x.place ≡ Some x.holds) ⊎ IsAhead locks k.known x → known_at k.known place ≡ Some x.holds
+      by_stand (inl is) =
+          let same : there.holds ≡ x.holds =
+          k.walked.none counter.0 place there.holds there.is ∙ sym (k.walked.none counter.0 x.place x.holds is) in
+          there.is ∙ ap (λ (hs : List Hold). Some hs) same
+      by_stand (inr ahead) = let calls = ahead.here in cc
 
   -- before its first act
   unfoldable pub known_first : (program : List ProgramPlace) (known : Known) → known_of locks program ≡ Ok known → IsKnownStand locks (first_stand locks program)

@@ -13,7 +13,7 @@ use Rattle.lock_plan.specs.declared.lock.PlanLock.{PlanLock}
 use Rattle.lock_plan.specs.declared.program.Act.{Act}
 use Rattle.lock_plan.specs.declared.program.Act.TheVariants.{Call, Try, Choose, Signal}
 use Rattle.lock_plan.specs.declared.program.ProgramPlace.{ProgramPlace}
-use Rattle.lock_plan.specs.declared.program.Signal.TheVariants.{Idle, Start, Clear, NotifyOne, NotifyAll}
+use Rattle.lock_plan.specs.declared.program.Signal.TheVariants.{Idle, Start, Set, NotifyOne, NotifyAll}
 use Rattle.lock_plan.specs.declared.program.Step.{Step}
 use Rattle.lock_plan.specs.declared.turn.Turn.{Turn}
 use Rattle.lock_plan.specs.declared.turn.Turn.TheVariants.{Goes, Announces, Waits}
@@ -21,11 +21,10 @@ use Rattle.lock_plan.specs.Holds.{lines_up, turn_on}
 use Rattle.lock_plan.specs.Known.{PlaceFault, Known, known_at, known_of}
 use Rattle.lock_plan.specs.NeverWaits.{calls_lock, uses, others_use, held_alone, act_never_waits, place_never_waits, places_never_wait, never_waits_by}
 use Rattle.lock_plan.specs.Releases.{always_goes}
-use Rattle.lock_plan.specs.Signals.{lets, move_of}
-use Rattle.lock_plan.specs.Worlds.{Stand, no_stand, no_lock, act_in, act_of, acts_of, call_in, next_in, other_in, is_flag, holds_after, lock_holds, reply_to, reply_at, reply_of, turn_by, turn_of, at_place, gone, announced_for, after_call, is_goes, either_by, stand_by, stand_after, stand_moved, rows_moved, world_by, world_step, world_after, is_step_turn, line_of, waits_for, has_waiter, on_lock, goes_on, no_holds, first_stand, first_world}
+use Rattle.lock_plan.specs.Signals.{idles, lets, move_of}
+use Rattle.lock_plan.specs.Worlds.{Stand, no_stand, no_lock, act_in, act_of, acts_of, call_in, next_in, other_in, values_of, holds_after, lock_holds, reply_to, reply_at, reply_of, turn_by, turn_of, at_place, gone, announced_for, after_call, is_goes, either_by, stand_by, stand_after, stand_moved, rows_moved, world_by, world_step, world_after, is_step_turn, line_of, waits_for, has_waiter, on_lock, goes_on, no_holds, first_stand, first_world}
 use Rattle.lock_plan.proofs.CircleSets.{below_none, below_each}
 use Rattle.lock_plan.proofs.ExchangeBars.{set_cases, moved_program, moved_holds, rows_keep, step_program, put_parts, on_parts, nothing_held, first_programs}
-use Rattle.lock_plan.proofs.Flags.{flag_is}
 use Rattle.lock_plan.proofs.Landing.{goes_is}
 use Rattle.lock_plan.proofs.Moves.{moved_has, row_after}
 use Rattle.lock_plan.proofs.Releases.{goes}
@@ -143,7 +142,7 @@ module _ (locks : List PlanLock) (programs : List (List ProgramPlace)) (party : 
   turn_goes acts holds (Some (Try call)) reply e goes = refl
   turn_goes acts holds (Some (Choose block)) reply e goes = refl
   turn_goes acts holds (Some (Signal (Start row))) reply e goes = refl
-  turn_goes acts holds (Some (Signal (Clear row))) reply e goes = refl
+  turn_goes acts holds (Some (Signal (Set row place))) reply e goes = refl
   turn_goes acts holds (Some (Signal (NotifyOne cond))) reply e goes = refl
   turn_goes acts holds (Some (Signal (NotifyAll cond))) reply e goes = refl
   turn_goes acts holds (Some (Signal signal)) reply e goes = cc
@@ -190,19 +189,18 @@ module _ (locks : List PlanLock) (programs : List (List ProgramPlace)) (party : 
     first_goes : act_never_waits locks programs party (no_holds locks) (act_in program 0) ≡ true
     first_goes = each_place program 0 known steady 0 0 (no_holds locks) (omega arith) walked.start
 
-    no_flag : (s : Stand) → IsThere s → is_flag s.program ≡ true → ⊥
-    no_flag s there flag =
-        let idle : act_in program 0 ≡ Some (Signal Idle) =
-        ap (λ (ps : List ProgramPlace). act_in ps 0) (sym there.runs) ∙ (flag_is s.program flag).idle in
-        false≢true (sym (ap (act_never_waits locks programs party (no_holds locks)) idle) ∙ first_goes)
+    -- a party that goes on does not idle
+    no_idle : (holds : List Hold) (here : Option Act) → act_never_waits locks programs party holds here ≡ true → idles here ≡ true → ⊥
+    no_idle holds (Some (Signal (Idle value))) goes e = cc
+    no_idle holds here goes e = cc
 
     moved_there : (s : Stand) → IsThere s → (a : Option Act) (way row : ℕ)
-        → IsThere (stand_moved s (move_of a way row (act_of s) (is_flag s.program)))
+        → IsThere (stand_moved s (move_of a way row (act_of s) (values_of s.program)))
     moved_there s there a way row =
         moved_has IsThere s there
         (λ signal e. goes_to s there (next_in s.program s.place) s.holds ((leaves s there (Signal signal) e).signals signal refl))
         (λ block e. goes_to s there (next_in s.program s.place) s.holds ((leaves s there (Choose block) e).first block refl))
-        (λ flag. absurd (no_flag s there flag)) a way row
+        (λ place idle e. absurd (no_idle s.holds (act_of s) (acts s there) idle)) a way row
 
     -- after its own act
     module _ (s t : Stand) (there : IsThere s) where

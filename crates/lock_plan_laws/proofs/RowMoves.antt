@@ -6,13 +6,13 @@ use Rattle.lock_plan.specs.declared.lock.PlanLock.{PlanLock}
 use Rattle.lock_plan.specs.declared.program.Act.{Act}
 use Rattle.lock_plan.specs.declared.program.ProgramPlace.{ProgramPlace}
 use Rattle.lock_plan.specs.Signals.{move_of}
-use Rattle.lock_plan.specs.Worlds.{Stand, no_stand, no_lock, act_of, acts_of, is_flag, at_place, stand_moved, rows_moved}
+use Rattle.lock_plan.specs.Worlds.{Stand, no_stand, no_lock, act_of, acts_of, values_of, at_place, stand_moved, rows_moved}
 use Rattle.lock_plan.proofs.ExchangeBars.{moved_program, moved_holds, rows_keep}
 use Rattle.lock_plan.proofs.ExchangeWalks.{rows_long}
 use Rattle.lock_plan.proofs.Moves.{moved_has, row_after}
 use Rattle.lock_plan_laws.specs.Scenes.{Scene, row_at, rows_of, scene_at, scene_moved}
 use Rattle.lock_plan_laws.specs.Bridge.{AreDistinct}
-use Rattle.lock_plan_laws.proofs.KnownStands.{IsKnownStand, known_chosen, known_signalled, known_restarted}
+use Rattle.lock_plan_laws.proofs.KnownStands.{IsKnownStand, known_chosen, known_signalled, known_counted}
 use Rattle.lock_plan_laws.proofs.Ties.{IsLockTied, IsTied, tied_still}
 
 -- however a row is moved, only its place changes
@@ -26,10 +26,10 @@ at_moved x m place = grind arith
 
 -- a row that is moved stands where its program leads
 known_moved : (locks : List PlanLock) (x : Stand) → IsKnownStand locks x → (way row : ℕ) (a : Option Act)
-    → IsKnownStand locks (stand_moved x (move_of a way row (act_of x) (is_flag x.program)))
+    → IsKnownStand locks (stand_moved x (move_of a way row (act_of x) (values_of x.program)))
 known_moved locks x k way row a =
     moved_has (IsKnownStand locks) x k (known_signalled locks x k) (λ block e. known_chosen locks x k false block e)
-    (known_restarted locks x k) a way row
+    (known_counted locks x k) a way row
 
 abbrev rows_in : List Stand → List Stand
 rows_in w = map row_at (zip (map (λ x. x.program) w) (map (λ x. x.place) w))
@@ -45,7 +45,7 @@ module _ (a : Option Act) (way : ℕ) where
   moved_places row [] = refl
   moved_places row (x ∷ w) =
       ap (λ (n : ℕ). n ∷ map (λ (y : Stand). y.place) (rows_moved a way (suc row) (rows_in w))) (same_place x _)
-      ∙ ap (λ (ns : List ℕ). (stand_moved x (move_of a way row (act_of x) (is_flag x.program))).place ∷ ns)
+      ∙ ap (λ (ns : List ℕ). (stand_moved x (move_of a way row (act_of x) (values_of x.program))).place ∷ ns)
       (moved_places (suc row) w)
 
 module _ {T : Type 0} (ids : ℕ → PartyId) (distinct : AreDistinct ids) (locks : List PlanLock)

@@ -14,7 +14,7 @@ use Rattle.lock_plan.specs.declared.program.Signal.{Signal}
 use Rattle.lock_plan.specs.declared.program.Step.{Step}
 use Rattle.lock_plan.specs.declared.turn.Turn.{Turn}
 use Rattle.lock_plan.specs.declared.turn.Turn.TheVariants.{Goes, Announces, Waits, Refused}
-use Rattle.lock_plan.specs.Signals.{lets}
+use Rattle.lock_plan.specs.Signals.{lets, moves_others}
 use Rattle.lock_plan.specs.Worlds.{Stand, no_stand, no_lock, act_of, acts_of, next_in, other_in, reply_of, turn_by, turn_of, is_goes, at_place, gone, announced_for, after_call, only_if, either_by, stand_by, put_stand, rows_moved, world_step, is_step_turn}
 use Rattle.lock_plan.proofs.Landing.{some_same}
 use Rattle.lock_plan.proofs.Moves.{rows_still}
@@ -41,8 +41,7 @@ module _ {O T A : Type 0} (meaning : O → Operation T A) (ids : ℕ → PartyId
     Tied v after = IsTied ids locks programs v after (suc used)
 
     -- the step of a party whose act moves no row
-    alone : (taken : Step) (a : Act) → act_of (get_or w taken.party no_stand) ≡ Some a
-        → ((signal : Signal) → a ≡ act.Signal signal → ⊥)
+    alone : (taken : Step) (a : Act) → act_of (get_or w taken.party no_stand) ≡ Some a → moves_others (Some a) ≡ false
         → world_step locks w taken ≡ only_if (lets (acts_of w) taken.way (Some a))
         (put_stand w taken.party
         (stand_by (get_or w taken.party no_stand) (taken.way == 1) (Some a) (reply_of locks w taken.party)))
@@ -52,7 +51,7 @@ module _ {O T A : Type 0} (meaning : O → Operation T A) (ids : ℕ → PartyId
         (stand_by (stand taken.party) (taken.way == 1) o (reply_of locks w taken.party)))) here
         ∙ ap (λ (v : List Stand). only_if (lets (acts_of w) taken.way (Some a)) (put_stand v taken.party
         (stand_by (stand taken.party) (taken.way == 1) (Some a) (reply_of locks w taken.party))))
-        (rows_still a taken.way 0 w other)
+        (rows_still (Some a) taken.way 0 w other)
 
     -- what the rows of the scene let go, those of the world do
     lets_same : (way : ℕ) (o : Option Act) → lets (acts_of (rows_of programs s)) way o ≡ lets (acts_of w) way o
@@ -93,7 +92,7 @@ module _ {O T A : Type 0} (meaning : O → Operation T A) (ids : ℕ → PartyId
 
       call_steps : world_step locks w c.step ≡ put_stand w c.party (after_call (get_or w c.party no_stand) h.call (Some turn))
       call_steps =
-          alone c.step (act.Call h.call) at_call (λ signal is. cc)
+          alone c.step (act.Call h.call) at_call refl
           ∙ ap (λ (n : ℕ). only_if (n == 0)
           (put_stand w c.party (after_call (stand c.party) h.call (reply_of locks w c.party)))) h.one_way
           ∙ ap (λ (o : Option Turn). put_stand w c.party (after_call (stand c.party) h.call o)) replied
@@ -172,7 +171,7 @@ module _ {O T A : Type 0} (meaning : O → Operation T A) (ids : ℕ → PartyId
       try_steps : (b : Bool) → is_goes (Some same_here.turn) ≡ b
           → world_step locks w c.step ≡ put_stand w c.party (either_by b (not b) gone_on passed)
       try_steps b is =
-          alone c.step (act.Try h.call) at_try (λ signal e. cc)
+          alone c.step (act.Try h.call) at_try refl
           ∙ ap (λ (o : Option Turn). only_if (nat_lt c.way 2)
           (put_stand w c.party (either_by (is_goes o) (c.way == 1) gone_on passed))) same_here.in_world
           ∙ ap (λ (x : Bool). only_if (nat_lt c.way 2)
@@ -221,16 +220,19 @@ module _ {O T A : Type 0} (meaning : O → Operation T A) (ids : ℕ → PartyId
     chooses_on c after h =
         let here : act_of (get_or w c.party no_stand) ≡ Some (act.Choose h.block) =
         sym (act_same meaning ids distinct locks bars programs w s used tied c.party) ∙ h.here in
+        let choice : Act = act.Choose h.block in
         let x : Stand = stand c.party in
         let next : Stand = at_place x (way_from x.program x.place (c.way == 1)) x.holds in
+        let v : List Stand = set (rows_moved (Some choice) c.way 0 w) c.party next in
         let way = way_same meaning ids distinct locks bars programs w s used tied c.step in
         record {
-          world = set w c.party next;
-          steps = alone c.step (act.Choose h.block) here (λ signal e. cc)
-              ∙ ap (λ (b : Bool). only_if b (Some (set w c.party next)))
-              (sym (lets_same c.way (Some (act.Choose h.block))) ∙ h.is_let);
-          still = subst (Tied (set w c.party next)) (ap (scene_at s c.party) (sym way) ∙ sym h.leaves)
-              (chosen_tied meaning ids distinct locks bars programs w s used tied c.party (c.way == 1) h.block here);
+          world = v;
+          steps =
+              ap (λ (o : Option Act). only_if (lets (acts_of w) c.way o) (put_stand (rows_moved o c.way 0 w) c.party
+              (stand_by x (c.way == 1) o (reply_of locks w c.party)))) here
+              ∙ ap (λ (b : Bool). only_if b (Some v)) (sym (lets_same c.way (Some choice)) ∙ h.is_let);
+          still = subst (Tied v) (ap (scene_at (scene_moved programs s (Some choice) c.way) c.party) (sym way) ∙ sym h.leaves)
+              (chosen_tied meaning ids distinct locks bars programs w s used tied c.party c.way (c.way == 1) h.block here);
           known = known meaning ids distinct locks bars programs w s used tied c.party (act.Choose h.block) here;
           has_step = ap (λ (o : Option Act). is_step_turn (turn_by (acts_of w) o (reply_of locks w c.party))) here;
         }

@@ -8,7 +8,7 @@ use Rattle.lock_plan.specs.declared.lock.PlanLock.{PlanLock}
 use Rattle.lock_plan.specs.declared.program.Act.{Act}
 use Rattle.lock_plan.specs.declared.program.Act.TheVariants as act
 use Rattle.lock_plan.specs.declared.program.ProgramPlace.{ProgramPlace}
-use Rattle.lock_plan.specs.declared.program.Signal.TheVariants.{Assert}
+use Rattle.lock_plan.specs.declared.program.Signal.TheVariants.{AssertAtLeast}
 use Rattle.lock_plan.specs.declared.program.Step.{Step}
 use Rattle.lock_plan.specs.declared.turn.Turn.{Turn}
 use Rattle.lock_plan.specs.declared.turn.Turn.TheVariants.{Goes, Announces, Refused}
@@ -17,7 +17,7 @@ use Rattle.lock_modes.specs.declared.lock_step.LockStep.{LockStep}
 use Rattle.lock_modes.specs.declared.lock_step.LockStep.TheVariants.{Modes}
 use Rattle.lock_plan.specs.Checks.{none_fair}
 use Rattle.lock_plan.specs.Holds.{lines_up}
-use Rattle.lock_plan.specs.Signals.{idles, has_value}
+use Rattle.lock_plan.specs.Signals.{idles, is_so}
 use Rattle.lock_plan.specs.Worlds.{Stand, no_stand, no_lock, act_of, acts_of, reply_at, reply_of, turn_by, turn_of, is_goes, some_below, is_server, is_due, is_refused_turn, is_step_turn, line_of, has_waiter, on_lock, goes_on, is_stuck, is_refused, is_stop}
 use Rattle.lock_plan_laws.specs.Scenes.{Caller, Scene, act_at, HasFalseAssertion, IsStep, IsStuckScene, IsRefusedScene, IsStopScene}
 use Rattle.lock_plan_laws.specs.Bridge.{AreDistinct}
@@ -93,12 +93,12 @@ module _ {O T A : Type 0} (meaning : O → Operation T A) (ids : ℕ → PartyId
 
     false_here : HasFalseAssertion programs s → is_refused locks w ≡ true
     false_here h =
-        let here : act_of (stand h.party) ≡ Some (act.Signal (Assert h.row h.value)) =
+        let here : act_of (stand h.party) ≡ Some (act.Signal (AssertAtLeast h.row h.number h.value)) =
         sym (act_same meaning ids distinct locks bars programs w s used tied h.party) ∙ h.here in
-        let other : has_value (acts_of w) h.row h.value ≡ false =
-        ap (λ (acts : List (Option Act)). has_value acts h.row h.value) (sym (acts_same ids distinct locks programs w s used tied)) ∙ h.is_false in
+        let other : is_so (acts_of w) h.row h.number h.value ≡ false =
+        ap (λ (acts : List (Option Act)). is_so acts h.row h.number h.value) (sym (acts_same ids distinct locks programs w s used tied)) ∙ h.is_false in
         some_at (λ p. is_refused_turn (turn_of locks w p)) (length w) h.party
-        (known meaning ids distinct locks bars programs w s used tied h.party (act.Signal (Assert h.row h.value)) here)
+        (known meaning ids distinct locks bars programs w s used tied h.party (act.Signal (AssertAtLeast h.row h.number h.value)) here)
         (ap (λ (o : Option Act). is_refused_turn (turn_by (acts_of w) o (reply_of locks w h.party))) here
         ∙ ap (λ (b : Bool). is_refused_turn (Some (if b then Goes else Refused))) other)
 
@@ -114,9 +114,10 @@ module _ {O T A : Type 0} (meaning : O → Operation T A) (ids : ℕ → PartyId
         inr (record {
           party = p;
           row = h.0;
-          value = h.1;
-          here = act_same meaning ids distinct locks bars programs w s used tied p ∙ here ∙ ap (λ (a : _). Some (act.Signal a)) h.2;
-          is_false = ap (λ (acts : List (Option Act)). has_value acts h.0 h.1) (acts_same ids distinct locks programs w s used tied) ∙ h.3;
+          number = h.1;
+          value = h.2;
+          here = act_same meaning ids distinct locks bars programs w s used tied p ∙ here ∙ ap (λ (a : _). Some (act.Signal a)) h.3;
+          is_false = ap (λ (acts : List (Option Act)). is_so acts h.0 h.1 h.2) (acts_same ids distinct locks programs w s used tied) ∙ h.4;
         })
     refused_by p o here is = cc
 

@@ -393,14 +393,17 @@ module _ {O T A : Type 0} (meaning : O → Operation T A) (ids : ℕ → PartyId
       }
 
   -- a choice
-  pub chosen_tied : (p : ℕ) (other : Bool) (block : PlanBlock) → act_of (get_or w p no_stand) ≡ Some (act.Choose block)
+  pub chosen_tied : (p way : ℕ) (other : Bool) (block : PlanBlock) → act_of (get_or w p no_stand) ≡ Some (act.Choose block)
       → IsTied ids locks programs
-      (set w p (at_place (get_or w p no_stand) (way_from (get_or w p no_stand).program (get_or w p no_stand).place other) (get_or w p no_stand).holds))
-      (scene_at s p (way_from (get_or w p no_stand).program (get_or w p no_stand).place other)) (suc used)
-  chosen_tied p other block here =
+      (set (rows_moved (Some (act.Choose block)) way 0 w) p
+      (at_place (get_or w p no_stand) (way_from (get_or w p no_stand).program (get_or w p no_stand).place other) (get_or w p no_stand).holds))
+      (scene_at (scene_moved programs s (Some (act.Choose block)) way) p
+      (way_from (get_or w p no_stand).program (get_or w p no_stand).place other)) (suc used)
+  chosen_tied p way other block here =
       let stand : Stand = get_or w p no_stand in
       let there = acts_known w p (act.Choose block) here in
-      tied_still ids distinct locks programs w s used tied p (way_from stand.program stand.place other) there s.machines (λ k. refl)
+      signal_tied ids distinct locks programs w s used tied (Some (act.Choose block)) way p
+      (way_from stand.program stand.place other) there
       (known_chosen locks stand (tied.known p there) other block here)
 
   -- a signal

@@ -7,12 +7,12 @@ use Rattle.lock_plan.specs.declared.lock.PlanLock.{PlanLock}
 use Rattle.lock_plan.specs.declared.program.Act.{Act}
 use Rattle.lock_plan.specs.declared.program.Act.TheVariants as act
 use Rattle.lock_plan.specs.declared.program.Block.{Block}
-use Rattle.lock_plan.specs.declared.program.Block.TheVariants.{Repeat, Either, If, TimedSleep}
+use Rattle.lock_plan.specs.declared.program.Block.TheVariants.{Repeat, Either, AtLeast, TimedSleep, TryAdd, TryTake}
 use Rattle.lock_plan.specs.declared.program.Signal.{Signal}
-use Rattle.lock_plan.specs.declared.program.Signal.TheVariants.{Idle, Sleep, Start, Clear, Join, Assert, NotifyOne, NotifyAll}
+use Rattle.lock_plan.specs.declared.program.Signal.TheVariants.{Idle, Sleep, Start, Join, Add, Take, Set, AssertAtLeast, NotifyOne, NotifyAll}
 use Rattle.lock_plan.specs.declared.turn.Turn.{Turn}
 use Rattle.lock_plan.specs.declared.turn.Turn.TheVariants.{Goes, Waits, Refused}
-use Rattle.lock_plan.specs.Signals.{idles, sleeps_on, has_ended, has_value, lets_signal, lets, signal_turn}
+use Rattle.lock_plan.specs.Signals.{idles, sleeps_on, has_ended, reaches, is_so, lets_signal, lets, signal_turn}
 use Rattle.lock_plan.specs.Worlds.{reply_at, turn_by, is_step_turn}
 
 module _ {X : Type 0} where
@@ -39,11 +39,21 @@ module _ (acts : List (Option Act)) where
   choice_way Repeat = (0, refl)
   choice_way Either = (0, refl)
   choice_way (TimedSleep cond) = (1, refl)
-  choice_way (If row) = by_end (has_ended acts row) refl
+  choice_way (AtLeast row number) = by_value (reaches number (get_or acts row None)) refl
     where
-      by_end : (b : Bool) → has_ended acts row ≡ b → (way : ℕ) × (lets acts way (Some (act.Choose (If row))) ≡ true)
-      by_end true is = (0, is)
-      by_end false is = (1, ap not is)
+      by_value : (b : Bool) → reaches number (get_or acts row None) ≡ b → (way : ℕ) × (lets acts way (Some (act.Choose (AtLeast row number))) ≡ true)
+      by_value true is = (0, is)
+      by_value false is = (1, ap not is)
+  choice_way (TryAdd row most) = by_value (reaches most (get_or acts row None)) refl
+    where
+      by_value : (b : Bool) → reaches most (get_or acts row None) ≡ b → (way : ℕ) × (lets acts way (Some (act.Choose (TryAdd row most))) ≡ true)
+      by_value true is = (1, is)
+      by_value false is = (0, ap not is)
+  choice_way (TryTake row) = by_value (reaches 1 (get_or acts row None)) refl
+    where
+      by_value : (b : Bool) → reaches 1 (get_or acts row None) ≡ b → (way : ℕ) × (lets acts way (Some (act.Choose (TryTake row))) ≡ true)
+      by_value true is = (0, is)
+      by_value false is = (1, ap not is)
 
   goes_if : (b : Bool) → is_step_turn (Some (if b then Goes else Waits)) ≡ b
   goes_if true = refl
@@ -56,24 +66,28 @@ module _ (acts : List (Option Act)) where
   -- a signal goes where it has a way
   pub signal_goes : (way : ℕ) (signal : Signal) → lets_signal acts way signal ≡ true
       → is_step_turn (signal_turn acts signal) ≡ true
-  signal_goes way Idle is = cc
+  signal_goes way (Idle value) is = cc
   signal_goes way (Sleep cond) is = cc
   signal_goes way (Start row) is = refl
-  signal_goes way (Clear row) is = refl
   signal_goes way (Join row) is = goes_if (has_ended acts row) ∙ (and_parts (way == 0) (has_ended acts row) is).1
-  signal_goes way (Assert row value) is =
-      asserts_if (has_value acts row value) ∙ (and_parts (way == 0) (has_value acts row value) is).1
+  signal_goes way (Add row most) is = goes_if (is_so acts row most false) ∙ (and_parts (way == 0) (is_so acts row most false) is).1
+  signal_goes way (Take row) is = goes_if (is_so acts row 1 true) ∙ (and_parts (way == 0) (is_so acts row 1 true) is).1
+  signal_goes way (Set row place) is = refl
+  signal_goes way (AssertAtLeast row number value) is =
+      asserts_if (is_so acts row number value) ∙ (and_parts (way == 0) (is_so acts row number value) is).1
   signal_goes way (NotifyOne cond) is = refl
   signal_goes way (NotifyAll cond) is = refl
 
   pub signal_way : (signal : Signal) → is_step_turn (signal_turn acts signal) ≡ true
       → (way : ℕ) × (lets_signal acts way signal ≡ true)
-  signal_way Idle is = cc
+  signal_way (Idle value) is = cc
   signal_way (Sleep cond) is = cc
   signal_way (Start row) is = (0, refl)
-  signal_way (Clear row) is = (0, refl)
   signal_way (Join row) is = (0, sym (goes_if (has_ended acts row)) ∙ is)
-  signal_way (Assert row value) is = (0, sym (asserts_if (has_value acts row value)) ∙ is)
+  signal_way (Add row most) is = (0, sym (goes_if (is_so acts row most false)) ∙ is)
+  signal_way (Take row) is = (0, sym (goes_if (is_so acts row 1 true)) ∙ is)
+  signal_way (Set row place) is = (0, refl)
+  signal_way (AssertAtLeast row number value) is = (0, sym (asserts_if (is_so acts row number value)) ∙ is)
   signal_way (NotifyOne cond) is = by_sleeper (list_any (sleeps_on cond) acts) refl
     where
       by_sleeper : (b : Bool) → list_any (sleeps_on cond) acts ≡ b
@@ -92,13 +106,15 @@ module _ (acts : List (Option Act)) where
 
   -- a signal is refused only where it is an assertion that is false
   pub signal_refused : (signal : Signal) → signal_turn acts signal ≡ Some Refused
-      → (row : ℕ) × (value : Bool) × (signal ≡ Assert row value) × (has_value acts row value ≡ false)
+      → (row : ℕ) × (number : ℕ) × (value : Bool) × (signal ≡ AssertAtLeast row number value) × (is_so acts row number value ≡ false)
   signal_refused (Join row) is = absurd (join_never (has_ended acts row) is)
-  signal_refused (Assert row value) is = (row, value, refl, refused_if (has_value acts row value) is)
+  signal_refused (Add row most) is = absurd (join_never (is_so acts row most false) is)
+  signal_refused (Take row) is = absurd (join_never (is_so acts row 1 true) is)
+  signal_refused (AssertAtLeast row number value) is = (row, number, value, refl, refused_if (is_so acts row number value) is)
   signal_refused other is = cc
 
   signal_some : (signal : Signal) → idles (Some (act.Signal signal)) ≡ false → is_some (signal_turn acts signal) ≡ true
-  signal_some Idle there = cc
+  signal_some (Idle value) there = cc
   signal_some other there = refl
 
   -- a party at an act of its program has a turn, whatever the others hold, if it does not idle
@@ -110,5 +126,5 @@ module _ (acts : List (Option Act)) where
 
   pub some_turn : (a : Act) (reply : Option Turn) → is_some (turn_by acts (Some a) reply) ≡ true
       → idles (Some a) ≡ false
-  some_turn (act.Signal Idle) reply is = cc
+  some_turn (act.Signal (Idle value)) reply is = cc
   some_turn other reply is = refl

@@ -13,7 +13,7 @@ use lock_plan::{Plan, Step};
 /// Each machine has room for as many guards as the programs have places.
 /// A machine numbers its guards, so a trace has fewer than 2^64 - 1 steps. Each trace of `explore` has, by its clause `short`.
 /// If a plan never deadlocks, no run of its machines stops. A machine has no line, so it may go on in a stop of a plan with fair
-/// locks. Flags, sleep, starts, joins and assertions follow the rules of the plan in both: a machine has none of them.
+/// locks. Counters, sleep, starts, joins and assertions follow the rules of the plan in both: a machine has none of them.
 pub fn machines_stop_as_explored<T, O: Op<T>>(plan: &Plan)
     requires { IsTrue (fit_machines plan.now.locks.items) }
     ensures none { NeverDeadlocks plan.now.servers.items plan.now.locks.items (programs_of plan.now)
