@@ -1,5 +1,5 @@
 //! The pauses of a contended call before it sleeps.
-ghost use Rattle.std.specs.Prelude.{◌≡◌, ◌+◌, ◌<◌, ◌^◌, not, nat_lt};
+ghost use Rattle.std.specs.Prelude.{◌≡◌, ◌+◌, ◌<◌, ◌^◌};
 
 use std::hint::spin_loop;
 use std::thread;
@@ -22,13 +22,6 @@ impl Pauses {
         ensures { result.made ≡ 0 }
     {
         Pauses { made: 0 }
-    }
-
-    /// Returns whether the call has made them all.
-    pub(crate) fn are_over(&self) -> bool
-        ensures { result ≡ not (nat_lt self.now.made 20) }
-    {
-        self.made >= Pauses::MOST
     }
 
     /// Makes the next pause.

@@ -72,6 +72,7 @@ impl EventCount {
         requires { registered.events ≡ self.now }
         ensures wait { (result.events ≡ self.now) × (result.number ≡ registered.number) }
         ensures deadline { result.deadline ≡ None }
+        ensures in_time { result.timed_out ≡ false }
     {
         let parked = self.park(rt, registered, Some(time));
         self.rise(parked, None, false)
