@@ -3,51 +3,72 @@ ghost use Rattle.std.specs.Prelude.{◌≡◌, ◌≤◌};
 ghost use Rattle.std.specs.Thread.{IsSync};
 
 use crate::tests::deadlines::after;
+use crate::tests::sleeper::let_ask;
 use lock_ruled::{Holder, Semaphore};
 use lock_test_support::answer::equal;
 use std::alloc::Global;
 use std::sync::Wait;
+use std::sync::atomic::{AtomicU64, Ordering};
 use std::test::Fail;
 use std::thread::{Threads, join};
 use std::time::{Clock, Duration, Instant};
 
-/// Releases a permit after a while.
-fn release_later<R: Wait + Clock>(rt: &R, semaphore: &Semaphore, holder: Holder) -> Holder
+/// Releases a permit a while after another thread has asked for one, and counts itself before that.
+fn release_later<R: Wait + Clock>(
+    rt: &R,
+    semaphore: &Semaphore,
+    holder: Holder,
+    asked: &AtomicU64,
+) -> Holder
     requires { (holder.mutex ≡ semaphore.now) × (1 ≤ holder.view.own) }
     ensures { result.mutex ≡ semaphore.now }
 {
+    let_ask(rt, asked, 1);
     rt.sleep(Duration::from_millis(100));
+    asked.fetch_add(1, Ordering::SeqCst);
     semaphore.release(rt, holder, 1)
 }
 
-/// The first holder releases its permit after a while, and the second waits for it.
+/// Acquires a permit. Returns the count after that.
+fn acquire_one<R: Wait>(rt: &R, semaphore: &Semaphore, holder: Holder, asked: &AtomicU64) -> u64
+    requires { holder.mutex ≡ semaphore.now }
+{
+    asked.fetch_add(1, Ordering::SeqCst);
+    drop(semaphore.acquire(rt, holder, 1));
+    asked.load(Ordering::SeqCst)
+}
+
+/// The first holder releases its permit after a while, and the second waits for it. Returns the second's count.
 fn pass_on<R: Threads + Wait + Clock + Sync>(
     rt: &R,
     semaphore: &Semaphore,
     first: Holder,
     second: Holder,
-)
+    asked: &AtomicU64,
+) -> u64
     requires first { (first.mutex ≡ semaphore.now) × (1 ≤ first.view.own) }
     requires second { second.mutex ≡ semaphore.now }
 {
-    join(
+    let ((), count) = join(
         rt,
         move || -> ()
             requires { IsSync R.row × (first.mutex ≡ semaphore.now) × (1 ≤ first.view.own) }
-        { drop(release_later(rt, semaphore, first)) },
-        move || -> ()
+        { drop(release_later(rt, semaphore, first, asked)) },
+        move || -> u64
             requires { IsSync R.row × (second.mutex ≡ semaphore.now) }
-        { drop(semaphore.acquire(rt, second, 1)) },
+        { acquire_one(rt, semaphore, second, asked) },
     );
+    count
 }
 
+/// The second holder has its permit only after the first one has counted itself, a while after the second asked.
 #[test]
 fn released_permit_wakes_sleeper(rt: HostRuntime) -> Result<(), Fail> {
     let (semaphore, holder) = Semaphore::new(rt.alloc(), 1)?;
     let holder = semaphore.acquire(&rt, holder, 1);
     let (first, second) = semaphore.split(holder);
-    pass_on(&rt, &semaphore, first, second);
-    Ok(())
+    let asked = AtomicU64::new(0);
+    equal(pass_on(&rt, &semaphore, first, second, &asked), 2)
 }
 
 /// Acquires the permits by a try, and releases them. Returns whether they were given.

@@ -137,17 +137,20 @@ fn short_run<R: Threads + Wait + Clock + Sync>(
     Ok(!lock.is_locked())
 }
 
-/// Makes 5,000 short runs, or as many as a loaded machine does in 10 seconds.
+/// Makes 5,000 short runs, or as many as a loaded machine does in 10 seconds: at least each run at each limit.
 #[test]
 fn no_short_run_hangs(rt: HostRuntime) -> Result<(), Fail> {
     let start = Instant::now(&rt)?;
+    let mut made = 0usize;
     for run in 0..5_000usize {
         let readers = [1, 2, 4][run % 3];
         assert!(rt; short_run(&rt, rt.alloc(), readers, RUNS[run % 5])?);
+        made = run + 1;
         if start.elapsed(&rt)? >= Duration::from_secs(10) {
             break;
         }
     }
+    assert!(rt; made >= 15, "a run took most of a second");
     Ok(())
 }
 
