@@ -5,6 +5,7 @@ pub mod Agree
 pub mod Rests
 pub mod TryEnds
 pub mod Causes
+pub mod Deadlines
 pub mod Blocks
 pub mod Ranks
 pub mod Tokens

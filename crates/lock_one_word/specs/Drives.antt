@@ -1,5 +1,5 @@
 -- What a driver knows of a call between two of its actions.
-use Rattle.std.specs.Prelude.{◌≡◌, ℕ, ◌+◌, ◌-◌, ◌<◌, Bool, true, false, if◌then◌else◌, ◌⊎◌, IsTrue, Option, Some, None, Result, MatchResult}
+use Rattle.std.specs.Prelude.{◌≡◌, ℕ, ◌+◌, ◌-◌, ◌<◌, Bool, true, false, if◌then◌else◌, ◌⊎◌, IsTrue, Option, Some, None, Result, IfErr, MatchResult}
 use Rattle.lock_modes.specs.declared.hold.Hold.{Hold}
 use Rattle.lock_modes.specs.Holds.{hold_after}
 use Rattle.lock_word.specs.declared.want.ExWant.{ExWant}
@@ -18,7 +18,7 @@ use Rattle.lock_one_word.specs.declared.rule.OneView.{OneView}
 use Rattle.lock_one_word.specs.declared.word_lock.steps.looked.Looked.{Looked}
 use Rattle.lock_one_word.specs.declared.word_lock.steps.unacquired.Unacquired.{Unacquired}
 use Rattle.lock_one_word.specs.declared.word_lock.steps.unreleased.Unreleased.{Unreleased}
-use Rattle.lock_one_word.specs.Calls.{IsTry}
+use Rattle.lock_one_word.specs.Calls.{IsTry, TimesOut}
 use Rattle.lock_one_word.specs.Seals.{Ending, ending}
 use Rattle.lock_one_word.specs.Seats.{Self, Task, to_acquire, to_release, IsGoing}
 
@@ -97,6 +97,19 @@ LeadsTo first me last after = (before : Hold) (task : Task) → IsGoing first be
 abbrev pub EndsWith : Progress → Self → Bool → Self → Type 0
 EndsWith first me answer after =
     (before : Hold) (task : Task) → IsGoing first before task me.0 → (call : Call) × IsGoing (call, End answer) before task after.0
+
+-- the call is late only if its wait has an end
+abbrev pub IsInTime : Bool → Call → Type 0
+IsInTime has_end call = call.late ≡ true → has_end ≡ true
+
+-- the call goes on with the answer of its sleep, which calls it late only if its wait has an end
+abbrev pub HasRested : Bool → Pending → Pending → Type 0
+HasRested has_end p q = (found : ℕ) × (at q ≡ next_of found p.call) × (found ≡ 1 → has_end ≡ true)
+
+-- if the call was refused, then after its deadline, so its wait has an end
+abbrev pub IsRefusedLate : Bool → Progress → Self → Result Ending Ending → Type 0
+IsRefusedLate has_end first me r =
+    IfErr r (λ (end : Ending). (before : Hold) (wish : ExWant) → IsGoing first before (to_acquire wish) me.0 → TimesOut me.0.readers end × (has_end ≡ true))
 
 -- a try after its load: it asks for an exchange, or has ended, or owes the wake-up of a reader that took the turn
 pub record IsTrying (next : Progress) : Type 0 where

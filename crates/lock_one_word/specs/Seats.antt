@@ -3,6 +3,7 @@ use Rattle.std.specs.Prelude.{◌≡◌, ℕ, ◌^◌, ◌<◌, Bool, true, fals
 use mathlib.Core.Option.{some}
 use lib.ListN.{get_elem?}
 use Rattle.atomic_table.specs.Table.{State, Me}
+use Rattle.atomic_table.specs.declared.shared.Seat.{Seat}
 use Rattle.lock_modes.specs.declared.hold.Hold.{Hold}
 use Rattle.lock_modes.specs.Limits.{IsLimit}
 use Rattle.lock_modes.specs.Holds.{no_hold}
@@ -39,6 +40,10 @@ Table = State (Unit {0}) OneView
 -- a seat: its view, and its slots, of which it has none
 abbrev pub Self : Type 0
 Self = Me (Unit {0}) OneView
+
+-- the seat has its table, its slots and its limit still
+abbrev pub KeepsSeat : Seat (Unit {0}) OneView → Seat (Unit {0}) OneView → Type 0
+KeepsSeat old new = (new.table_id ≡ old.table_id) × (new.me.1 ≡ old.me.1) × (new.me.0.readers ≡ old.me.0.readers)
 
 abbrev pub stored_in : Table → ℕ
 stored_in s = slice_index s.words 0

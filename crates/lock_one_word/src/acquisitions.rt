@@ -1,5 +1,5 @@
 //! The calls that acquire a token.
-ghost use Rattle.std.specs.Prelude.{◌≡◌, IfSome, IfNone, is_some};
+ghost use Rattle.std.specs.Prelude.{◌≡◌, true, IfSome, IfNone, is_some};
 ghost use Rattle.lock_word.specs.Word.{want_of_mode};
 ghost use Rattle.lock_one_word.specs.Calls.{IsTokenOf, WasTried, HasTimedOut};
 
@@ -31,13 +31,10 @@ impl WordLock {
     pub fn acquire<R: Wait>(&self, rt: &R, mode: Mode) -> WordToken
         ensures { IsTokenOf self.now mode result }
     {
-        for _ in rt.forever() {
-            // A wait without an end is never refused.
-            if let Some(token) = self.acquire_within(rt, mode, &Endless) {
-                return token;
-            }
+        match self.acquire_within(rt, mode, &Endless) {
+            Some(token) => token,
+            None => unreachable!(),
         }
-        unreachable!()
     }
 
     /// Acquires the mode, blocking until `deadline`.
@@ -55,6 +52,7 @@ impl WordLock {
 
     #[tactic(auto, using(crate::proofs::Tokens::may_acquire, crate::proofs::Tokens::awaits))]
     /// Acquires the mode, blocking until the wait is over.
+    #[inline(always)]
     fn acquire_within<R: Wait, U: Until<R>>(
         &self,
         rt: &R,
@@ -63,6 +61,7 @@ impl WordLock {
     ) -> Option<WordToken>
         ensures acquired { IfSome result (IsTokenOf self.now mode) }
         ensures refused { IfNone result (HasTimedOut self.now) }
+        ensures over { IfNone result (U.has_end ≡ true) }
     {
         let (looked, mut seat) = self.enter(ExWant::of_mode(mode), true);
         let ended = self.come_to_end(rt, &mut seat, looked, until);

@@ -1,5 +1,5 @@
 //! The calls that release a token or change its mode.
-ghost use Rattle.std.specs.Prelude.{◌≡◌, MatchResult, OnErr, is_ok};
+ghost use Rattle.std.specs.Prelude.{◌≡◌, true, MatchResult, OnErr, is_ok};
 ghost use Rattle.lock_modes.specs.declared.mode.Mode.TheVariants.{Shared, Exclusive, Upgradable};
 ghost use Rattle.lock_one.specs.Machine.{core_of};
 ghost use Rattle.lock_word.specs.declared.want.ExWant.TheVariants.{Upgrade};
@@ -85,15 +85,10 @@ impl WordLock {
         requires { IsTokenOf self.now Upgradable token }
         ensures { IsTokenOf self.now Exclusive result }
     {
-        let mut own = token;
-        for _ in rt.forever() {
-            // A wait without an end is never refused.
-            match self.upgrade_within(rt, own, &Endless) {
-                Ok(token) => return token,
-                Err(token) => own = token,
-            }
+        match self.upgrade_within(rt, token, &Endless) {
+            Ok(token) => token,
+            Err(_) => unreachable!(),
         }
-        unreachable!()
     }
 
     /// Makes an upgradable token exclusive, blocking until `deadline`, or returns it unchanged.
@@ -111,6 +106,7 @@ impl WordLock {
     }
 
     /// Makes an upgradable token exclusive, blocking until the wait is over, or returns it unchanged.
+    #[inline(always)]
     fn upgrade_within<R: Wait, U: Until<R>>(
         &self,
         rt: &R,
@@ -120,6 +116,7 @@ impl WordLock {
         requires { IsTokenOf self.now Upgradable token }
         ensures upgraded { MatchResult result (IsTokenOf self.now Exclusive) (λ back. back ≡ token) }
         ensures refused { OnErr result (HasTimedOut self.now) }
+        ensures over { OnErr result (U.has_end ≡ true) }
     {
         let (looked, mut seat) = self.enter_upgrade(token, true);
         let ended = self.come_to_end(rt, &mut seat, looked, until);

@@ -1,11 +1,8 @@
 //! The driver of a call: it makes the actions that the machine asks for.
-ghost use Rattle.std.specs.Prelude.{◌≡◌, true, false, None, IfSome, IfErr, is_ok};
-ghost use Rattle.lock_modes.specs.declared.hold.Hold.{Hold};
-ghost use Rattle.lock_word.specs.declared.want.ExWant.{ExWant};
+ghost use Rattle.std.specs.Prelude.{◌≡◌, true, false, None, IfSome, is_ok};
 ghost use Rattle.lock_one.specs.declared.action.Action.TheVariants.{End};
-ghost use Rattle.lock_one_word.specs.Calls.{TimesOut};
-ghost use Rattle.lock_one_word.specs.Drives.{at, looked_at, unacquired_at, CanGo, GoesOn, EndsWith, touches_lock};
-ghost use Rattle.lock_one_word.specs.Seats.{IsGoing, to_acquire};
+ghost use Rattle.lock_one_word.specs.Drives.{at, looked_at, unacquired_at, CanGo, GoesOn, EndsWith, IsInTime, IsRefusedLate, touches_lock};
+ghost use Rattle.lock_one_word.specs.Seats.{KeepsSeat};
 
 use crate::until::Until;
 use crate::word_lock::{CallSeat, Ended, Looked, Pending, Unacquired, WordLock};
@@ -17,7 +14,7 @@ impl WordLock {
     pub(crate) fn make_on_lock(&self, seat: &mut CallSeat, pending: &mut Pending) -> bool
         requires table { seat.old.seat.table_id ≡ self.now.id }
         requires going { CanGo (at pending.old) seat.old.seat.me }
-        ensures table { (seat.new.seat.table_id ≡ seat.old.seat.table_id) × (seat.new.seat.me.1 ≡ seat.old.seat.me.1) × (seat.new.seat.me.0.readers ≡ seat.old.seat.me.0.readers) }
+        ensures table { KeepsSeat seat.old.seat seat.new.seat }
         ensures made { result ≡ true → (touches_lock pending.old.action ≡ true) × GoesOn pending.old seat.old.seat.me pending.new seat.new.seat.me }
         ensures other { result ≡ false → (touches_lock pending.old.action ≡ false) × (seat.new.seat.me ≡ seat.old.seat.me) × (pending.new ≡ pending.old) }
     {
@@ -44,7 +41,9 @@ impl WordLock {
     ) -> Option<bool>
         requires table { seat.old.seat.table_id ≡ self.now.id }
         requires going { CanGo (at pending.old) seat.old.seat.me }
-        ensures table { (seat.new.seat.table_id ≡ seat.old.seat.table_id) × (seat.new.seat.me.1 ≡ seat.old.seat.me.1) × (seat.new.seat.me.0.readers ≡ seat.old.seat.me.0.readers) }
+        requires in_time { IsInTime U.has_end pending.old.call }
+        ensures table { KeepsSeat seat.old.seat seat.new.seat }
+        ensures in_time { IsInTime U.has_end pending.new.call }
         ensures made { result ≡ None → GoesOn pending.old seat.old.seat.me pending.new seat.new.seat.me }
         ensures ended { IfSome result (λ answer. (pending.old.action ≡ End answer) × (seat.new.seat.me ≡ seat.old.seat.me) × (pending.new ≡ pending.old)) }
     {
@@ -76,10 +75,10 @@ impl WordLock {
         requires table { seat.old.seat.table_id ≡ self.now.id }
         requires going { CanGo (unacquired_at call) seat.old.seat.me }
         requires blocks { (unacquired_at call).0.blocks ≡ true }
-        ensures table { (seat.new.seat.table_id ≡ seat.old.seat.table_id) × (seat.new.seat.me.1 ≡ seat.old.seat.me.1) × (seat.new.seat.me.0.readers ≡ seat.old.seat.me.0.readers) }
+        requires in_time { IsInTime U.has_end (unacquired_at call).0 }
+        ensures table { KeepsSeat seat.old.seat seat.new.seat }
         ensures ended { EndsWith (unacquired_at call) seat.old.seat.me (is_ok result) seat.new.seat.me }
-        ensures refused { IfErr result (λ end. (before : Hold) (wish : ExWant) → IsGoing (unacquired_at call) before (to_acquire wish) seat.old.seat.me.0
-            → TimesOut seat.old.seat.me.0.readers end) }
+        ensures refused { IsRefusedLate U.has_end (unacquired_at call) seat.old.seat.me result }
     {
         let mut pending = call.into_pending();
         for _ in rt.forever() {
@@ -102,10 +101,9 @@ impl WordLock {
         requires table { seat.old.seat.table_id ≡ self.now.id }
         requires going { CanGo (looked_at looked) seat.old.seat.me }
         requires blocks { looked.blocks ≡ true }
-        ensures table { (seat.new.seat.table_id ≡ seat.old.seat.table_id) × (seat.new.seat.me.1 ≡ seat.old.seat.me.1) × (seat.new.seat.me.0.readers ≡ seat.old.seat.me.0.readers) }
+        ensures table { KeepsSeat seat.old.seat seat.new.seat }
         ensures ended { EndsWith (looked_at looked) seat.old.seat.me (is_ok result) seat.new.seat.me }
-        ensures refused { IfErr result (λ end. (before : Hold) (wish : ExWant) → IsGoing (looked_at looked) before (to_acquire wish) seat.old.seat.me.0
-            → TimesOut seat.old.seat.me.0.readers end) }
+        ensures refused { IsRefusedLate U.has_end (looked_at looked) seat.old.seat.me result }
     {
         match self.start(seat, looked) {
             Ok(ended) => Ok(ended),

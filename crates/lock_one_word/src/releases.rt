@@ -5,6 +5,7 @@ ghost use Rattle.lock_modes.specs.Holds.{hold_has, hold_after};
 ghost use Rattle.lock_word.specs.declared.down.Down.{Down};
 ghost use Rattle.lock_word.specs.Word.{step_of_down};
 ghost use Rattle.lock_one_word.specs.Drives.{unreleased_at, IsReleasing, EndsRelease};
+ghost use Rattle.lock_one_word.specs.Seats.{KeepsSeat};
 
 use crate::word_lock::{CallSeat, Unreleased, WordLock};
 use lock_word::Down;
@@ -16,7 +17,7 @@ impl WordLock {
         requires table { seat.old.seat.table_id ≡ self.now.id }
         requires readers { seat.old.seat.me.0.readers ≡ self.now.readers }
         requires has { IsTrue (hold_has seat.old.seat.me.0.held (step_of_down down)) }
-        ensures table { (seat.new.seat.table_id ≡ seat.old.seat.table_id) × (seat.new.seat.me.1 ≡ seat.old.seat.me.1) × (seat.new.seat.me.0.readers ≡ seat.old.seat.me.0.readers) }
+        ensures table { KeepsSeat seat.old.seat seat.new.seat }
         ensures held { seat.new.seat.me.0.held ≡ hold_after seat.old.seat.me.0.held (step_of_down down) }
     {
         if let Err(call) = self.start_release(seat, down) {
@@ -30,7 +31,7 @@ impl WordLock {
     fn take_on(&self, seat: &mut CallSeat, call: Unreleased)
         requires table { seat.old.seat.table_id ≡ self.now.id }
         requires going { IsReleasing (unreleased_at call) seat.old.seat.me }
-        ensures table { (seat.new.seat.table_id ≡ seat.old.seat.table_id) × (seat.new.seat.me.1 ≡ seat.old.seat.me.1) × (seat.new.seat.me.0.readers ≡ seat.old.seat.me.0.readers) }
+        ensures table { KeepsSeat seat.old.seat seat.new.seat }
         ensures ended { EndsRelease (unreleased_at call) seat.old.seat.me seat.new.seat.me }
     {
         let mut pending = call.into_pending();

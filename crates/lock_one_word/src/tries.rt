@@ -1,6 +1,7 @@
 //! How a call tries, without blocking.
 ghost use Rattle.std.specs.Prelude.{◌≡◌, false, is_ok};
 ghost use Rattle.lock_one_word.specs.Drives.{looked_at, unacquired_at, CanGo, HasWoken, IsTrying, Tried, TriesEnd, says_yes};
+ghost use Rattle.lock_one_word.specs.Seats.{KeepsSeat};
 
 use crate::word_lock::{CallSeat, Ended, Looked, Pending, Unacquired, WordLock};
 use lock_one::Action;
@@ -12,7 +13,7 @@ impl WordLock {
         requires table { seat.old.seat.table_id ≡ self.now.id }
         requires going { CanGo (looked_at looked) seat.old.seat.me }
         requires tries { looked.blocks ≡ false }
-        ensures table { (seat.new.seat.table_id ≡ seat.old.seat.table_id) × (seat.new.seat.me.1 ≡ seat.old.seat.me.1) × (seat.new.seat.me.0.readers ≡ seat.old.seat.me.0.readers) }
+        ensures table { KeepsSeat seat.old.seat seat.new.seat }
         ensures tried { Tried (looked_at looked) (is_ok result) seat.old.seat.me seat.new.seat.me }
         ensures ended { TriesEnd (looked_at looked) seat.old.seat.me result }
     {
@@ -28,7 +29,7 @@ impl WordLock {
     fn try_on(&self, seat: &mut CallSeat, call: Unacquired) -> Result<Ended, Ended>
         requires table { seat.old.seat.table_id ≡ self.now.id }
         requires going { CanGo (unacquired_at call) seat.old.seat.me × IsTrying (unacquired_at call) }
-        ensures table { (seat.new.seat.table_id ≡ seat.old.seat.table_id) × (seat.new.seat.me.1 ≡ seat.old.seat.me.1) × (seat.new.seat.me.0.readers ≡ seat.old.seat.me.0.readers) }
+        ensures table { KeepsSeat seat.old.seat seat.new.seat }
         ensures tried { Tried (unacquired_at call) (is_ok result) seat.old.seat.me seat.new.seat.me }
         ensures ended { TriesEnd (unacquired_at call) seat.old.seat.me result }
     {

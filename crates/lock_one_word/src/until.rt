@@ -1,4 +1,5 @@
 //! How long a call may wait.
+ghost use Rattle.std.specs.Prelude.{◌≡◌, Bool, true, false};
 
 use lock_wake::time_left;
 use std::time::{Clock, Duration, Instant};
@@ -23,10 +24,21 @@ impl Left {
     }
 }
 
-/// The end of a wait.
+/// The end of a wait, if it has one.
 pub(crate) trait Until<R> {
+    /// Whether the wait has an end.
+    ghost has_end: { Bool };
+
     /// Returns the time that is left.
-    fn left(&self, rt: &R) -> Left;
+    fn left(&self, rt: &R) -> Left
+        ensures { result ≡ Left.Over → has_end ≡ true };
+
+    /// Returns whether the wait is over.
+    fn is_over(&self, rt: &R) -> bool
+        ensures { result ≡ true → has_end ≡ true }
+    {
+        matches!(self.left(rt), Left::Over)
+    }
 }
 
 /// A wait without an end.
@@ -34,6 +46,8 @@ pub(crate) trait Until<R> {
 pub(crate) struct Endless;
 
 impl<R> Until<R> for Endless {
+    ghost has_end = { false };
+
     fn left(&self, _rt: &R) -> Left {
         Left::Endless
     }
@@ -44,6 +58,8 @@ impl<R> Until<R> for Endless {
 pub(crate) struct Deadline(pub(crate) Instant);
 
 impl<R: Clock> Until<R> for Deadline {
+    ghost has_end = { true };
+
     fn left(&self, rt: &R) -> Left {
         match time_left(rt, self.0) {
             Some(left) => Left::Within(left),

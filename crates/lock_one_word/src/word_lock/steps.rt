@@ -1,9 +1,10 @@
 //! The actions of a call, made on the word. Only these functions go on with a call.
-ghost use Rattle.std.specs.Prelude.{◌≡◌, ℕ, ◌+◌, ◌-◌, ◌<◌, ◌^◌, Bool, if◌then◌else◌};
+ghost use Rattle.std.specs.Prelude.{◌≡◌, ◌+◌, ◌-◌, ◌<◌, ◌^◌, true};
 ghost use Rattle.lock_one.specs.declared.action.Action.TheVariants.{Load, Exchange, Subtract, Park, WakeOne, WakeAll, WakeNext, WakeTurn, Spin, Yield};
 ghost use Rattle.lock_one.specs.declared.action.Sleeper.{Sleeper};
 ghost use Rattle.lock_one.specs.Machine.{next_of};
-ghost use Rattle.lock_one_word.specs.Drives.{at, CanGo, GoesOn};
+ghost use Rattle.lock_one_word.specs.Drives.{at, CanGo, GoesOn, HasRested};
+ghost use Rattle.lock_one_word.specs.Seats.{KeepsSeat};
 
 mod atomic;
 mod call_seat;
@@ -50,7 +51,7 @@ impl WordLock {
         requires table { seat.old.seat.table_id ≡ self.now.id }
         requires action { pending.old.action ≡ Exchange old new }
         requires going { CanGo (at pending.old) seat.old.seat.me }
-        ensures table { (seat.new.seat.table_id ≡ seat.old.seat.table_id) × (seat.new.seat.me.1 ≡ seat.old.seat.me.1) × (seat.new.seat.me.0.readers ≡ seat.old.seat.me.0.readers) }
+        ensures table { KeepsSeat seat.old.seat seat.new.seat }
         ensures goes { GoesOn pending.old seat.old.seat.me pending.new seat.new.seat.me }
         ensures counted { pending.old.exchanges < 2 ^ 64 - 1 → pending.new.exchanges ≡ pending.old.exchanges + 1 }
     {
@@ -64,7 +65,7 @@ impl WordLock {
         requires table { seat.old.seat.table_id ≡ self.now.id }
         requires action { pending.old.action ≡ Subtract down }
         requires going { CanGo (at pending.old) seat.old.seat.me }
-        ensures table { (seat.new.seat.table_id ≡ seat.old.seat.table_id) × (seat.new.seat.me.1 ≡ seat.old.seat.me.1) × (seat.new.seat.me.0.readers ≡ seat.old.seat.me.0.readers) }
+        ensures table { KeepsSeat seat.old.seat seat.new.seat }
         ensures goes { GoesOn pending.old seat.old.seat.me pending.new seat.new.seat.me }
     {
         let found = self.subtract_from_word(seat, down);
@@ -72,9 +73,6 @@ impl WordLock {
     }
 
     /// Sleeps while the word is this number, or until the wait is over, or the time of a brief sleep.
-    ///
-    /// No clock tells why a sleep without a deadline ended. Where the word is still the number, no holder has released, and the
-    /// time is taken to be over.
     pub(crate) fn park<R: Wait, U: Until<R>>(
         &self,
         rt: &R,
@@ -85,32 +83,40 @@ impl WordLock {
         until: &U,
     )
         requires { pending.old.action ≡ Park number class is_brief }
-        ensures { (found : ℕ) × (at pending.new ≡ next_of found pending.old.call) }
+        ensures { HasRested U.has_end pending.old pending.new }
     {
+        self.sleep(rt, number, until.left(rt).at_most(is_brief));
+        let is_late = until.is_over(rt);
+        let found = answer_of_sleep(is_late, self.has_lasted(number, is_brief));
+        pending.go_on(found);
+    }
+
+    /// Sleeps while the word is this number, for the time that is left.
+    fn sleep<R: Wait>(&self, rt: &R, number: u64, left: Left) {
         let expected = (to_stored(number) % 4_294_967_296) as u32;
-        match until.left(rt).at_most(is_brief) {
+        match left {
             Left::Endless => self.table.shared.park(rt, 0, expected),
             Left::Within(left) => self.table.shared.park_timeout(rt, 0, expected, left),
             Left::Over => {}
         }
-        let is_late = matches!(until.left(rt), Left::Over);
-        let is_over = is_brief && self.peek().word() == number;
-        pending.go_on(if is_late {
-            1
-        } else if is_over {
-            2
-        } else {
-            0
-        });
+    }
+
+    /// Returns whether a sleep is taken to have lasted its brief time.
+    ///
+    /// No clock tells why a sleep without a deadline ended. Where the word is still the number, no holder has released.
+    fn has_lasted(&self, number: u64, is_brief: bool) -> bool {
+        is_brief && self.peek().word() == number
     }
 
     /// Yields in place of a sleep.
     pub(crate) fn rest<R, U: Until<R>>(&self, rt: &R, pending: &mut Pending, until: &U)
         requires { pending.old.action ≡ Yield }
-        ensures { (is_late : Bool) × (at pending.new ≡ next_of (if is_late then 1 else 0) pending.old.call) }
+        ensures { HasRested U.has_end pending.old pending.new }
     {
         thread::yield_now();
-        pending.go_on(u64::from(matches!(until.left(rt), Left::Over)));
+        let is_late = until.is_over(rt);
+        let found = answer_of_sleep(is_late, false);
+        pending.go_on(found);
     }
 
     /// Spins two to the power of this number of times.
@@ -158,5 +164,18 @@ impl WordLock {
     {
         self.table.shared.wake_all(0);
         pending.go_on(0);
+    }
+}
+
+/// Returns the answer to the action of a sleep.
+fn answer_of_sleep(is_late: bool, has_lasted: bool) -> u64
+    ensures { result ≡ 1 → is_late ≡ true }
+{
+    if is_late {
+        1
+    } else if has_lasted {
+        2
+    } else {
+        0
     }
 }

@@ -5,7 +5,7 @@ ghost use Rattle.lock_one.specs.declared.action.Action.TheVariants.{Load, Exchan
 ghost use Rattle.lock_one.specs.Machine.{core_of};
 ghost use Rattle.lock_one_word.specs.Drives.{CanMake};
 ghost use Rattle.lock_one_word.specs.Plays.{Goes};
-ghost use Rattle.lock_one_word.specs.Seats.{newcomer};
+ghost use Rattle.lock_one_word.specs.Seats.{newcomer, KeepsSeat};
 
 use crate::plays::{ExchangeWord, LoadWord, SubtractFromWord};
 use crate::word_lock::WordLock;
@@ -47,7 +47,7 @@ impl WordLock {
     pub(super) fn exchange_word(&self, seat: &mut CallSeat, old: u64, new: u64) -> u64
         requires table { seat.old.seat.table_id ≡ self.now.id }
         requires going { CanMake (Exchange old new) seat.old.seat.me }
-        ensures table { (seat.new.seat.table_id ≡ seat.old.seat.table_id) × (seat.new.seat.me.1 ≡ seat.old.seat.me.1) × (seat.new.seat.me.0.readers ≡ seat.old.seat.me.0.readers) }
+        ensures table { KeepsSeat seat.old.seat seat.new.seat }
         ensures goes { Goes (Exchange old new) seat.old.seat.me result seat.new.seat.me }
     {
         let (first, second) = (to_stored(old), to_stored(new));
@@ -63,7 +63,7 @@ impl WordLock {
     pub(super) fn subtract_from_word(&self, seat: &mut CallSeat, down: Down) -> u64
         requires table { seat.old.seat.table_id ≡ self.now.id }
         requires going { CanMake (Subtract down) seat.old.seat.me }
-        ensures table { (seat.new.seat.table_id ≡ seat.old.seat.table_id) × (seat.new.seat.me.1 ≡ seat.old.seat.me.1) × (seat.new.seat.me.0.readers ≡ seat.old.seat.me.0.readers) }
+        ensures table { KeepsSeat seat.old.seat seat.new.seat }
         ensures goes { Goes (Subtract down) seat.old.seat.me result seat.new.seat.me }
     {
         let amount = stored_amount(down);

@@ -8,7 +8,7 @@ ghost use Rattle.lock_word.specs.Unblocking.{is_awaited};
 ghost use Rattle.lock_one.specs.Machine.{removes_reader};
 ghost use Rattle.lock_one_word.specs.Calls.{IsTokenOf, one_hold};
 ghost use Rattle.lock_one_word.specs.Drives.{looked_at, unacquired_at, unreleased_at, first_end, CanGo, EndsWith, IsTrying, LeadsTo};
-ghost use Rattle.lock_one_word.specs.Seats.{IsGoing, to_acquire, to_release};
+ghost use Rattle.lock_one_word.specs.Seats.{IsGoing, to_acquire, to_release, KeepsSeat};
 
 use crate::word_lock::WordLock;
 use crate::word_lock::steps::call_seat::CallSeat;
@@ -66,10 +66,10 @@ impl WordLock {
     pub(crate) fn start(&self, seat: &mut CallSeat, looked: Looked) -> Result<Ended, Unacquired>
         requires table { seat.old.seat.table_id ≡ self.now.id }
         requires going { CanGo (looked_at looked) seat.old.seat.me }
-        ensures table { (seat.new.seat.table_id ≡ seat.old.seat.table_id) × (seat.new.seat.me.1 ≡ seat.old.seat.me.1) × (seat.new.seat.me.0.readers ≡ seat.old.seat.me.0.readers) }
+        ensures table { KeepsSeat seat.old.seat seat.new.seat }
         ensures acquired { IfOk result (λ end. (end ≡ first_end looked) × EndsWith (looked_at looked) seat.old.seat.me true seat.new.seat.me) }
         ensures goes_on { IfErr result (λ call. LeadsTo (looked_at looked) seat.old.seat.me (unacquired_at call) seat.new.seat.me
-            × (looked.blocks ≡ false → IsTrying (unacquired_at call)) × ((unacquired_at call).0.blocks ≡ looked.blocks)) }
+            × (looked.blocks ≡ false → IsTrying (unacquired_at call)) × ((unacquired_at call).0.blocks ≡ looked.blocks) × ((unacquired_at call).0.late ≡ false)) }
     {
         let Some(left) = looked.exchanged() else {
             return Err(Unacquired {
@@ -94,7 +94,7 @@ impl WordLock {
         requires table { seat.old.seat.table_id ≡ self.now.id }
         requires readers { seat.old.seat.me.0.readers ≡ self.now.readers }
         requires has { IsTrue (hold_has seat.old.seat.me.0.held (step_of_down down)) }
-        ensures table { (seat.new.seat.table_id ≡ seat.old.seat.table_id) × (seat.new.seat.me.1 ≡ seat.old.seat.me.1) × (seat.new.seat.me.0.readers ≡ seat.old.seat.me.0.readers) }
+        ensures table { KeepsSeat seat.old.seat seat.new.seat }
         ensures ended { IfOk result (λ _. seat.new.seat.me.0.held ≡ hold_after seat.old.seat.me.0.held (step_of_down down)) }
         ensures goes_on { IfErr result (λ call. IsGoing (unreleased_at call) seat.old.seat.me.0.held (to_release down) seat.new.seat.me.0) }
     {
@@ -116,7 +116,7 @@ impl WordLock {
         requires readers { seat.old.seat.me.0.readers ≡ releasing.readers }
         requires has { IsTrue (hold_has seat.old.seat.me.0.held (step_of_down releasing.down)) }
         requires alone { removes_reader releasing.readers releasing.down ≡ false }
-        ensures table { (seat.new.seat.table_id ≡ seat.old.seat.table_id) × (seat.new.seat.me.1 ≡ seat.old.seat.me.1) × (seat.new.seat.me.0.readers ≡ seat.old.seat.me.0.readers) }
+        ensures table { KeepsSeat seat.old.seat seat.new.seat }
         ensures ended { IfOk result (λ _. seat.new.seat.me.0.held ≡ hold_after seat.old.seat.me.0.held (step_of_down releasing.down)) }
         ensures goes_on { IfErr result (λ call. IsGoing (unreleased_at call) seat.old.seat.me.0.held (to_release releasing.down) seat.new.seat.me.0) }
     {
@@ -140,7 +140,7 @@ impl WordLock {
         requires readers { seat.old.seat.me.0.readers ≡ releasing.readers }
         requires has { IsTrue (hold_has seat.old.seat.me.0.held (step_of_down releasing.down)) }
         requires removes { removes_reader releasing.readers releasing.down ≡ true }
-        ensures table { (seat.new.seat.table_id ≡ seat.old.seat.table_id) × (seat.new.seat.me.1 ≡ seat.old.seat.me.1) × (seat.new.seat.me.0.readers ≡ seat.old.seat.me.0.readers) }
+        ensures table { KeepsSeat seat.old.seat seat.new.seat }
         ensures ended { IfOk result (λ _. seat.new.seat.me.0.held ≡ hold_after seat.old.seat.me.0.held (step_of_down releasing.down)) }
         ensures goes_on { IfErr result (λ call. IsGoing (unreleased_at call) seat.old.seat.me.0.held (to_release releasing.down) seat.new.seat.me.0) }
     {

@@ -31,5 +31,10 @@ pub returns-clause-refused : goal.returns-clause-refused
 returns-clause-refused g c =
     let no = the_no c.come_to_end-ended.result _ (sym c.is_ok.ensures.value ∙ c.if-is_ok.false) c.come_to_end-ended.ensures.refused in (
       no.0,
-      subst (λ n. TimesOut n no.0) c.enter-seat.ensures.table.2 (no.1 no_hold c.of_mode.result c.enter-seat.ensures.going),
+      subst (λ n. TimesOut n no.0) c.enter-seat.ensures.table.2 (no.1 no_hold c.of_mode.result c.enter-seat.ensures.going).0,
     )
+
+pub returns-clause-over : goal.returns-clause-over
+returns-clause-over g c =
+    let no = the_no c.come_to_end-ended.result _ (sym c.is_ok.ensures.value ∙ c.if-is_ok.false) c.come_to_end-ended.ensures.refused in
+    (no.1 no_hold c.of_mode.result c.enter-seat.ensures.going).1

@@ -1,7 +1,9 @@
-use Rattle.std.proofs.Common.{if◌then◌else◌, refl, sym, subst, ◌∙◌}
+use Rattle.std.proofs.Common.{◌==◌, refl, sym, ap, subst, ◌∙◌}
+use Rattle.std.proofs.lemmas.Bool.{true≢false}
 use Rattle.lock_one.specs.declared.action.Action.TheVariants.{Park, Spin, Yield}
-use Rattle.lock_one_word.specs.Drives.{Pending, GoesOn}
+use Rattle.lock_one_word.specs.Drives.{Pending, GoesOn, IsInTime}
 use Rattle.lock_one_word.specs.Seats.{Self}
+use Rattle.lock_one_word.proofs.Deadlines.{keeps_time, on_lock}
 use Rattle.lock_one_word.proofs.Rests.{rests_on}
 use Rattle.lock_one_word.proofs.word_lock.WordLock.make.Goals as goal
 
@@ -32,5 +34,31 @@ returns-in-Yield-clause-made g c none =
     let p = c.make_on_lock.new.pending in
     let q = c.rest.new.pending in
     let me = c.make_on_lock.new.seat.seat.me in
-    let went = rests_on p q me (if c.rest.ensures.0 then 1 else 0) Yield (sym c.action.ensures ∙ c.in-Yield.is) refl refl c.rest.ensures.1 in
+    let went = rests_on p q me c.rest.ensures.0 Yield (sym c.action.ensures ∙ c.in-Yield.is) refl refl c.rest.ensures.1 in
     subst (λ (m : Self). GoesOn c.args.pending.now m q me) other.1 (subst (λ (x : Pending). GoesOn x me q me) other.2 went)
+
+pub returns-then-make_on_lock-clause-in_time : goal.returns-then-make_on_lock-clause-in_time
+returns-then-make_on_lock-clause-in_time g c =
+    let made = c.make_on_lock.ensures.made c.if-make_on_lock.true in
+    on_lock g.U.Until.has_end c.args.pending.now c.make_on_lock.new.pending c.args.seat.now.seat.me c.requires.going made.0 made.1.0 c.requires.in_time
+
+pub returns-in-Park-clause-in_time : goal.returns-in-Park-clause-in_time
+returns-in-Park-clause-in_time g c =
+    let p = c.make_on_lock.new.pending in
+    let same = (c.make_on_lock.ensures.other c.if-make_on_lock.false).2 in
+    keeps_time g.U.Until.has_end c.park.ensures.0 p c.park.new.pending c.park.ensures.1 (λ _. c.park.ensures.2)
+    (subst (λ (x : Pending). IsInTime g.U.Until.has_end x.call) (sym same) c.requires.in_time)
+
+pub returns-in-Spin-clause-in_time : goal.returns-in-Spin-clause-in_time
+returns-in-Spin-clause-in_time g c =
+    let p = c.make_on_lock.new.pending in
+    let same = (c.make_on_lock.ensures.other c.if-make_on_lock.false).2 in
+    keeps_time g.U.Until.has_end 0 p c.spin.new.pending c.spin.ensures (λ _ late. absurd (true≢false (ap (λ n. n == 0) late)))
+    (subst (λ (x : Pending). IsInTime g.U.Until.has_end x.call) (sym same) c.requires.in_time)
+
+pub returns-in-Yield-clause-in_time : goal.returns-in-Yield-clause-in_time
+returns-in-Yield-clause-in_time g c =
+    let p = c.make_on_lock.new.pending in
+    let same = (c.make_on_lock.ensures.other c.if-make_on_lock.false).2 in
+    keeps_time g.U.Until.has_end c.rest.ensures.0 p c.rest.new.pending c.rest.ensures.1 (λ _. c.rest.ensures.2)
+    (subst (λ (x : Pending). IsInTime g.U.Until.has_end x.call) (sym same) c.requires.in_time)

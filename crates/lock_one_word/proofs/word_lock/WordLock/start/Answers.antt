@@ -5,6 +5,7 @@ use Rattle.lock_one.specs.Machine.{next_of}
 use Rattle.lock_one_word.specs.Drives.{looked_at, IsTrying}
 use Rattle.lock_one_word.specs.Seats.{IsGoing}
 use Rattle.lock_one_word.proofs.Blocks.{still_blocks, looked_blocks}
+use Rattle.lock_one_word.proofs.Deadlines.{looked_in_time, still_in_time}
 use Rattle.lock_one_word.proofs.Straight.{goes, asks, acquires, tries}
 use Rattle.lock_one_word.proofs.TryEnds.{tries_again}
 use Rattle.lock_one_word.proofs.word_lock.WordLock.start.Goals as goal
@@ -18,7 +19,7 @@ exchange_word-found-requires-clause-going c =
 
 pub returns-in_default-clause-goes_on : goal.returns-in_default-clause-goes_on
 returns-in_default-clause-goes_on c =
-    (λ before task going. going, λ never. tries c.args.looked never, looked_blocks c.args.looked)
+    (λ before task going. going, λ never. tries c.args.looked never, looked_blocks c.args.looked, looked_in_time c.args.looked)
 
 pub returns-then-found-word-clause-acquired : goal.returns-then-found-word-clause-acquired
 returns-then-found-word-clause-acquired c =
@@ -50,4 +51,6 @@ returns-clause-goes_on c =
           (subst (λ (a : Action). IsGoing ((looked_at l).0, a) now.0 now.1 c.args.seat.now.seat.me.0) is now.2)
           (subst (λ (a : Action). IsTrying ((looked_at l).0, a)) is (tries l never)),
       still_blocks found (looked_at l).0 ∙ looked_blocks l,
+      still_in_time found l.word left (looked_at l).0 c.args.seat.now.seat.me.0 now.0 now.1
+          (subst (λ (a : Action). IsGoing ((looked_at l).0, a) now.0 now.1 c.args.seat.now.seat.me.0) is now.2) (looked_in_time l),
     )

@@ -30,5 +30,10 @@ pub returns-else-upgraded-clause-refused : goal.returns-else-upgraded-clause-ref
 returns-else-upgraded-clause-refused g c =
     let no = the_no c.come_to_end-ended.result _ (sym c.is_ok-upgraded.ensures.value ∙ c.if-upgraded.false) c.come_to_end-ended.ensures.refused in (
       no.0,
-      subst (λ n. TimesOut n no.0) c.enter_upgrade-seat.ensures.table.2 (no.1 (one_hold Upgradable) Upgrade c.enter_upgrade-seat.ensures.going),
+      subst (λ n. TimesOut n no.0) c.enter_upgrade-seat.ensures.table.2 (no.1 (one_hold Upgradable) Upgrade c.enter_upgrade-seat.ensures.going).0,
     )
+
+pub returns-else-upgraded-clause-over : goal.returns-else-upgraded-clause-over
+returns-else-upgraded-clause-over g c =
+    let no = the_no c.come_to_end-ended.result _ (sym c.is_ok-upgraded.ensures.value ∙ c.if-upgraded.false) c.come_to_end-ended.ensures.refused in
+    (no.1 (one_hold Upgradable) Upgrade c.enter_upgrade-seat.ensures.going).1
