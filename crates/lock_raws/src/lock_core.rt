@@ -59,12 +59,12 @@ pub trait LockCore: Sized + Drop {
     /// Returns whether an exclusive token is held. The answer may be stale at once.
     fn is_locked_exclusive(&self) -> bool;
 
-    /// Acquires the mode, blocking until it is admitted. `RawLock` calls `try_acquire` first.
+    /// Acquires the mode, blocking until it is admitted.
     fn acquire(&self, mode: Mode) -> Self::Token
         ensures { holds self.now mode result ≡ true };
 
     /// Acquires exclusively, blocking until it is admitted. A core may refuse later threads meanwhile. If its `acquire`
-    /// does so, it keeps this default. `RawLock` calls `try_acquire` first.
+    /// does so, it keeps this default.
     fn acquire_announced(&self) -> Self::Token
         ensures { holds self.now Mode.Exclusive result ≡ true }
     {
@@ -88,7 +88,7 @@ pub trait LockCore: Sized + Drop {
     fn release(&self, token: Self::Token, mode: Mode)
         requires { holds self.now mode token ≡ true };
 
-    /// Makes an upgradable token exclusive, blocking until no other token is held. `RawLock` calls `try_upgrade` first.
+    /// Makes an upgradable token exclusive, blocking until no other token is held.
     fn upgrade(&self, token: Self::Token) -> Self::Token
         requires { holds self.now Mode.Upgradable token ≡ true }
         ensures { holds self.now Mode.Exclusive result ≡ true };

@@ -29,7 +29,7 @@ impl<C: LockCore> RawMutex for RawLock<C> {
 
     fn lock(&self) -> ExclusiveToken<C::Token> {
         ExclusiveToken {
-            token: self.acquire(Mode::Exclusive),
+            token: self.core.acquire(Mode::Exclusive),
         }
     }
 

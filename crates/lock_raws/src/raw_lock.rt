@@ -11,16 +11,6 @@ pub struct RawLock<C: LockCore> {
 }
 
 impl<C: LockCore> RawLock<C> {
-    /// Acquires the mode, blocking only after a refused try.
-    pub(crate) fn acquire(&self, mode: Mode) -> C::Token
-        ensures { C.holds self.now.core mode result ≡ true }
-    {
-        match self.core.try_acquire(mode) {
-            Some(token) => token,
-            None => self.core.acquire(mode),
-        }
-    }
-
     /// Tries to acquire the mode for at most `timeout`. If the deadline cannot be represented, it blocks without one.
     pub(crate) fn acquire_within(&self, mode: Mode, timeout: C::Duration) -> Option<C::Token>
         ensures held { IfSome result (λ token. C.holds self.now.core mode token ≡ true) }

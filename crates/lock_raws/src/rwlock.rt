@@ -38,7 +38,7 @@ impl<C: LockCore> RawRwLock for RawLock<C> {
 
     fn lock_shared(&self) -> SharedToken<C::Token> {
         SharedToken {
-            token: self.acquire(Mode::Shared),
+            token: self.core.acquire(Mode::Shared),
         }
     }
 
@@ -53,11 +53,9 @@ impl<C: LockCore> RawRwLock for RawLock<C> {
 
     /// While it blocks, it may refuse later threads.
     fn lock_exclusive(&self) -> ExclusiveToken<C::Token> {
-        let token = match self.core.try_acquire(Mode::Exclusive) {
-            Some(token) => token,
-            None => self.core.acquire_announced(),
-        };
-        ExclusiveToken { token }
+        ExclusiveToken {
+            token: self.core.acquire_announced(),
+        }
     }
 
     fn try_lock_exclusive(&self) -> Option<ExclusiveToken<C::Token>> {
@@ -143,7 +141,7 @@ impl<C: LockCore> RawRwLockUpgrade for RawLock<C> {
 
     fn lock_upgradable(&self) -> UpgradableToken<C::Token> {
         UpgradableToken {
-            token: self.acquire(Mode::Upgradable),
+            token: self.core.acquire(Mode::Upgradable),
         }
     }
 
@@ -157,11 +155,9 @@ impl<C: LockCore> RawRwLockUpgrade for RawLock<C> {
     }
 
     fn upgrade(&self, token: UpgradableToken<C::Token>) -> ExclusiveToken<C::Token> {
-        let token = match self.core.try_upgrade(token.token) {
-            Ok(token) => token,
-            Err(token) => self.core.upgrade(token),
-        };
-        ExclusiveToken { token }
+        ExclusiveToken {
+            token: self.core.upgrade(token.token),
+        }
     }
 
     fn try_upgrade(

@@ -25,13 +25,6 @@ impl Model for Wake {
 }
 
 impl Wake {
-    /// The wake of a step that was not made.
-    pub(crate) fn nobody() -> Wake
-        ensures { result ≡ Whom.Nobody }
-    {
-        Wake { whom: Whom::Nobody }
-    }
-
     /// Decides which waiters to wake after a step, from the readers' limit and the states before and after.
     pub fn decide(readers: u64, before: Occupancy, after: Occupancy) -> Wake
         requires before_small { tokens before.bag < 2 ^ 64 }
