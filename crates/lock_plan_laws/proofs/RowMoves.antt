@@ -44,7 +44,7 @@ module _ (a : Option Act) (way : ℕ) where
       → map (λ x. x.place) (rows_moved a way row (rows_in w)) ≡ map (λ x. x.place) (rows_moved a way row w)
   moved_places row [] = refl
   moved_places row (x ∷ w) =
-      ap (λ (n : ℕ). n ∷ map (λ (y : Stand). y.place) (rows_moved a way (suc row) (rows_in w))) (same_place x _)
+      ap (λ (n : ℕ). n ∷ map (λ (y : Stand). y.place) (rows_moved a way (suc row) (rows_in w))) (same_place x (move_of a way row (act_of x) (values_of x.program)))
       ∙ ap (λ (ns : List ℕ). (stand_moved x (move_of a way row (act_of x) (values_of x.program))).place ∷ ns)
       (moved_places (suc row) w)
 
