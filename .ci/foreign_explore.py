@@ -163,6 +163,12 @@ class Tired(Lock):
     sleeps = 4
 
 
+class Woken(Lock):
+    """Threads that have slept once: in a mutex too, their sleeps are brief, unless a bar is set."""
+
+    sleeps = 1
+
+
 class Tokens(Calls):
     """Threads at a condition variable, a mutex, and tokens.
 
@@ -248,6 +254,7 @@ SOUND = [
     (Tired, 2, [WRITES, READS]), (Tired, 2, [WRITES, WRITES, READS]), (Tired, 2, [WRITES, READS, READS]), (Tired, 2, [WRITES, READS, LOOKS]),
     (Tired, 2, [WRITES, HURRIES, READS]), (Tired, 2, [WRITES, HURRIES, TIMED_READS]), (Tired, 2, [WRITES, UPGRADES, TIMED_READS]),
     (Tired, 2, [WRITES, [(TRY, SHARED), (RELEASE, SHARED)], READS]),
+    (Woken, 1, [WRITES] * 3), (Woken, 1, [WRITES, WRITES, HURRIES]),
     (Tokens, [WAIT, NOTIFY_ONE]), (Tokens, ALL), (Tokens, ONES), (Tokens, [WAIT, *ALL]), (Tokens, ONES, LAST_EPOCH - 2),
     (Tokens, ONES, LAST_EPOCH - 1), (Tokens, ALL, LAST_EPOCH - 1), (Tokens, [WAIT, *ONES, NOTIFY_ONE], LAST_EPOCH - 1), (Tokens, ONES, 0, EARLY),
 ]
