@@ -19,6 +19,7 @@ use Rattle.lock_one.specs.Rule.{is_shared, passes_turn}
 use Rattle.lock_one.specs.Machine.{wakes_one, has_slept, drops_turn, pauses_before, exchanges_before, word_marked, marked, withdrawn, refused, release_of, release_again, core_of, turn, has_turn, has_sleepers, sleepers, with_turn, with_sleepers, admits_word, class_of, is_brief, takes_turn, won, under_bar, Progress, acquired, after_try, decide, wait, goes_to, acquiring, begun, removes_reader, alone, frees_word, release_on, subtract, taking, wakes, next_at, next_of}
 use Rattle.lock_one.specs.Steps.{IsAt, IsWake, hold_at}
 use Rattle.lock_one.specs.Answers.{releases_at, AnswersMatchHolds, FirstSteps}
+use Rattle.lock_one.proofs.Either.{of_either}
 
 -- only these stages end a call
 pub ends_not : (st : Stage) (call : Call) (v : ParkView) (b : Bool) → IsAt st call v (action.End b)
@@ -97,18 +98,14 @@ released_holds call v before releases is held =
 abbrev Kind : Bool → Progress → Type 0
 Kind releases p = releases_at p.0.stage ≡ releases
 
-kind_one_of : (k b : Bool) (p q : Progress) → Kind k p → Kind k q → Kind k (if b then p else q)
-kind_one_of k true p q first second = first
-kind_one_of k false p q first second = second
-
 kind_decided : (word : ℕ) (call : Call) → Kind false (decide word call)
 kind_decided word call =
     let now : Call = record call { loaded = word } in
-    kind_one_of false (admits_word call.announced call.readers word call.want) _ _ refl
-    (kind_one_of false (not call.blocks) _ _ refl
-    (kind_one_of false call.late _ _
-    (kind_one_of false (call.announced || drops_turn now) _ _ refl (kind_one_of false (wakes_one call && (has_slept call && nat_lt word sleepers)) _ _ refl refl))
-    (kind_one_of false (nat_lt call.pauses pauses_before) _ _ refl (kind_one_of false (word_marked now == word) _ _ refl refl))))
+    of_either (Kind false) (admits_word call.announced call.readers word call.want) _ _ refl
+    (of_either (Kind false) (not call.blocks) _ _ refl
+    (of_either (Kind false) call.late _ _
+    (of_either (Kind false) (call.announced || drops_turn now) _ _ refl (of_either (Kind false) (wakes_one call && (has_slept call && nat_lt word sleepers)) _ _ refl refl))
+    (of_either (Kind false) (nat_lt call.pauses pauses_before) _ _ refl (of_either (Kind false) (word_marked now == word) _ _ refl refl))))
 
 kind_woken : (d : Debt) (call : Call) → Kind true (wakes d call)
 kind_woken debt.Nothing call = refl
@@ -120,20 +117,20 @@ kind_woken debt.Turn call = refl
 kind_kept : (st : Stage) (found : ℕ) (call : Call) → st ≢ stage.Acquired → st ≢ stage.Refused → Kind (releases_at st) (next_at st found call)
 kind_kept stage.Look found call a r = kind_decided found call
 kind_kept stage.Try found call a r =
-    kind_one_of false (found == call.loaded) (won call) _ (kind_one_of false (takes_turn call call.loaded && has_sleepers call.loaded) _ _ refl refl)
+    of_either (Kind false) (found == call.loaded) (won call) _ (of_either (Kind false) (takes_turn call call.loaded && has_sleepers call.loaded) _ _ refl refl)
     (kind_decided found call)
 kind_kept stage.Pause found call a r = refl
-kind_kept stage.Mark found call a r = kind_one_of false (found == call.loaded) (marked call) _ refl (kind_decided found call)
+kind_kept stage.Mark found call a r = of_either (Kind false) (found == call.loaded) (marked call) _ refl (kind_decided found call)
 kind_kept stage.Sleep found call a r = refl
 kind_kept stage.Withdraw found call a r =
-    kind_one_of false (found == call.loaded) (withdrawn call) _ (kind_one_of false (has_sleepers call.loaded && not (wakes_one call)) _ _ refl refl)
+    of_either (Kind false) (found == call.loaded) (withdrawn call) _ (of_either (Kind false) (has_sleepers call.loaded && not (wakes_one call)) _ _ refl refl)
     (kind_decided found call)
-kind_kept stage.Leave found call a r = kind_one_of false (found == call.loaded) (refused call) _ refl (kind_decided found call)
-kind_kept stage.LookToRemove found call a r = kind_one_of true (has_sleepers found) (release_on found call) (subtract call) refl refl
+kind_kept stage.Leave found call a r = of_either (Kind false) (found == call.loaded) (refused call) _ refl (kind_decided found call)
+kind_kept stage.LookToRemove found call a r = of_either (Kind true) (has_sleepers found) (release_on found call) (subtract call) refl refl
 kind_kept stage.Subtract found call a r = kind_woken (release_of call.readers found call.down).1 call
 kind_kept stage.Release found call a r =
-    kind_one_of true (found == call.loaded) _ (release_again found call) (kind_woken (release_of call.readers call.loaded call.down).1 call)
-    (kind_one_of true (nat_lt call.pauses exchanges_before) _ (subtract call) refl refl)
+    of_either (Kind true) (found == call.loaded) _ (release_again found call) (kind_woken (release_of call.readers call.loaded call.down).1 call)
+    (of_either (Kind true) (nat_lt call.pauses exchanges_before) _ (subtract call) refl refl)
 kind_kept stage.Wake found call a r = refl
 kind_kept stage.WakeRefused found call a r = refl
 kind_kept stage.WakeAcquired found call a r = refl
@@ -169,7 +166,7 @@ answers_match_holds =
       acquired_has_taken = acquired_holds;
       released_has_given = released_holds;
       acquires = λ readers wish blocks announces. refl;
-      releases = λ readers down. kind_one_of true (removes_reader readers down) _ _ refl refl;
+      releases = λ readers down. of_either (Kind true) (removes_reader readers down) _ _ refl refl;
       goes_on = λ found call. kind_kept call.stage found call;
       word_refuses = refuses;
     }

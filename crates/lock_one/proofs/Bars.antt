@@ -31,6 +31,7 @@ use Rattle.lock_one.specs.Machine.{Progress, is_exclusive, core_of, has_turn, ad
 use Rattle.lock_one.specs.Steps.{made, touches, hold_at, Awaits, IsAt, is_step}
 use Rattle.lock_one.specs.Runs.{Underway, Thread, LockInUse, views_of, new_lock, Act, answer, limits_in, after_act}
 use Rattle.lock_one.specs.Bars.{in_use, IsLateCall, BarredCallsAreNext}
+use Rattle.lock_one.proofs.Either.{of_either}
 use Rattle.lock_one.proofs.Parking.{parties_of, party_of, party_at, rule_of}
 use Rattle.lock_one.proofs.RunViews.{IsPlaced, RunKept, view_in}
 use Rattle.lock_one.proofs.RunSteps.{Stepped, act_holds}
@@ -42,18 +43,14 @@ use Rattle.lock_one.proofs.Runs.{acts_kept, new_kept, sleeper_in_park, barred_wa
 abbrev pub Still : Hold → Progress → Type 0
 Still before p = (hold_at p.0.stage p.0 before).bag ≡ before.bag
 
-pub still_one_of : (before : Hold) (b : Bool) (p q : Progress) → Still before p → Still before q → Still before (if b then p else q)
-still_one_of before true p q first second = first
-still_one_of before false p q first second = second
-
 pub still_decided : (before : Hold) (word : ℕ) (call : Call) → Still before (decide word call)
 still_decided before word call =
     let now : Call = record call { loaded = word } in
-    still_one_of before (admits_word call.announced call.readers word call.want) _ _ refl
-    (still_one_of before (not call.blocks) _ _ refl
-    (still_one_of before call.late _ _
-    (still_one_of before (call.announced || drops_turn now) _ _ refl (still_one_of before (wakes_one call && (has_slept call && nat_lt word sleepers)) _ _ refl refl))
-    (still_one_of before (nat_lt call.pauses pauses_before) _ _ refl (still_one_of before (word_marked now == word) _ _ refl refl))))
+    of_either (Still before) (admits_word call.announced call.readers word call.want) _ _ refl
+    (of_either (Still before) (not call.blocks) _ _ refl
+    (of_either (Still before) call.late _ _
+    (of_either (Still before) (call.announced || drops_turn now) _ _ refl (of_either (Still before) (wakes_one call && (has_slept call && nat_lt word sleepers)) _ _ refl refl))
+    (of_either (Still before) (nat_lt call.pauses pauses_before) _ _ refl (of_either (Still before) (word_marked now == word) _ _ refl refl))))
 
 pub fewer : (own : Hold) (d : Down) → IsTrue (hold_has own (step_of_down d)) → tokens (hold_after own (step_of_down d)).bag ≤ tokens own.bag
 fewer own down.Shared has = omega arith
@@ -138,7 +135,7 @@ passes_none st call v a word found before is held step reads high bare = by st i
         → (let p : Progress = if b then wakes (release_of call.readers call.loaded call.down).1 call else release_again found call in
         tokens (hold_at p.0.stage p.0 before).bag ≤ tokens v.held.bag)
     freed has held true = released has held (release_of call.readers call.loaded call.down).1
-    freed has held false = still (release_again found call) (bag before held) (still_one_of before (nat_lt call.pauses exchanges_before) _ _ refl refl)
+    freed has held false = still (release_again found call) (bag before held) (of_either (Still before) (nat_lt call.pauses exchanges_before) _ _ refl refl)
 
     by : (st : Stage) → IsAt st call v a → v.held ≡ hold_at st call before → is_step st ≡ true
         → tokens (hold_at (next_at st found call).0.stage (next_at st found call).0 before).bag ≤ tokens v.held.bag
@@ -147,17 +144,17 @@ passes_none st call v a word found before is held step reads high bare = by st i
     by stage.Pause is held step = still (goes_to call stage.Look action.Load) (bag (record before { announced = call.announced }) held) refl
     by stage.Mark is held step =
         still (next_at stage.Mark found call) (bag (record before { announced = call.announced }) held)
-        (still_one_of before (found == call.loaded) (marked call) _ refl (still_decided before found call))
+        (of_either (Still before) (found == call.loaded) (marked call) _ refl (still_decided before found call))
     by stage.Sleep is held step = absurd (false≢true step)
     by stage.Withdraw is held step =
         still (next_at stage.Withdraw found call) (bag (record before { announced = call.announced }) held)
-        (still_one_of before (found == call.loaded) (withdrawn call) _ (still_one_of before (has_sleepers call.loaded && not (wakes_one call)) _ _ refl refl)
+        (of_either (Still before) (found == call.loaded) (withdrawn call) _ (of_either (Still before) (has_sleepers call.loaded && not (wakes_one call)) _ _ refl refl)
         (still_decided before found call))
     by stage.Leave is held step =
         still (next_at stage.Leave found call) (bag (record before { announced = call.announced }) held)
-        (still_one_of before (found == call.loaded) (refused call) _ refl (still_decided before found call))
+        (of_either (Still before) (found == call.loaded) (refused call) _ refl (still_decided before found call))
     by stage.LookToRemove is held step =
-        still (look_to_remove found call) (bag before held) (still_one_of before (has_sleepers found) (release_on found call) (subtract call) refl refl)
+        still (look_to_remove found call) (bag before held) (of_either (Still before) (has_sleepers found) (release_on found call) (subtract call) refl refl)
     by stage.Subtract is held step = released is.0 held (release_of call.readers found call.down).1
     by stage.Release is held step = freed is.0 held (found == call.loaded)
     by stage.Wake is held step = absurd (false≢true step)
@@ -172,20 +169,16 @@ passes_none st call v a word found before is held step reads high bare = by st i
 abbrev Barred : Hold → Progress → Type 0
 Barred before p = (hold_at p.0.stage p.0 before).announced ≡ true
 
-barred_one_of : (before : Hold) (b : Bool) (p q : Progress) → Barred before p → Barred before q → Barred before (if b then p else q)
-barred_one_of before true p q first second = first
-barred_one_of before false p q first second = second
-
 -- a call in time keeps it
 barred_decided : (before : Hold) (word : ℕ) (call : Call) → call.announced ≡ true → call.blocks ≡ true → (b : Bool) → call.late ≡ b
     → Barred before (decide word call) ⊎ (call.late ≡ true)
 barred_decided before word call own blocks true late = inr late
 barred_decided before word call own blocks false late =
     let now : Call = record call { loaded = word } in
-    inl (barred_one_of before (admits_word call.announced call.readers word call.want) _ _ own
+    inl (of_either (Barred before) (admits_word call.announced call.readers word call.want) _ _ own
     (subst (λ b. Barred before (if not b then refused now else if call.late then time_out now else rest)) (sym blocks)
     (subst (λ b. Barred before (if b then time_out now else rest)) (sym late)
-    (barred_one_of before (nat_lt call.pauses pauses_before) _ _ own (barred_one_of before (word_marked now == word) _ _ own own)))))
+    (of_either (Barred before) (nat_lt call.pauses pauses_before) _ _ own (of_either (Barred before) (word_marked now == word) _ _ own own)))))
   where
     rest : Progress
     rest =
@@ -312,19 +305,15 @@ keeps_its_bar s a k own after run at bar later =
 abbrev Counts : ℕ → Progress → Type 0
 Counts n p = p.0.sleeps ≡ n
 
-counts_one_of : (n : ℕ) (b : Bool) (p q : Progress) → Counts n p → Counts n q → Counts n (if b then p else q)
-counts_one_of n true p q first second = first
-counts_one_of n false p q first second = second
-
 counts_decided : (word : ℕ) (call : Call) → Counts call.sleeps (decide word call)
 counts_decided word call =
     let n = call.sleeps in
     let now : Call = record call { loaded = word } in
-    counts_one_of n (admits_word call.announced call.readers word call.want) _ _ refl
-    (counts_one_of n (not call.blocks) _ _ refl
-    (counts_one_of n call.late _ _
-    (counts_one_of n (call.announced || drops_turn now) _ _ refl (counts_one_of n (wakes_one call && (has_slept call && nat_lt word sleepers)) _ _ refl refl))
-    (counts_one_of n (nat_lt call.pauses pauses_before) _ _ refl (counts_one_of n (word_marked now == word) _ _ refl refl))))
+    of_either (Counts n) (admits_word call.announced call.readers word call.want) _ _ refl
+    (of_either (Counts n) (not call.blocks) _ _ refl
+    (of_either (Counts n) call.late _ _
+    (of_either (Counts n) (call.announced || drops_turn now) _ _ refl (of_either (Counts n) (wakes_one call && (has_slept call && nat_lt word sleepers)) _ _ refl refl))
+    (of_either (Counts n) (nat_lt call.pauses pauses_before) _ _ refl (of_either (Counts n) (word_marked now == word) _ _ refl refl))))
 
 counts_woken : (d : Debt) (call : Call) → Counts call.sleeps (wakes d call)
 counts_woken debt.Nothing call = refl
@@ -335,20 +324,20 @@ counts_woken debt.Turn call = refl
 
 counts_next : (st : Stage) (found : ℕ) (call : Call) → (st ≡ stage.Sleep → ⊥) → Counts call.sleeps (next_at st found call)
 counts_next stage.Look found call other = counts_decided found call
-counts_next stage.Try found call other = counts_one_of call.sleeps (found == call.loaded) (won call) _
-    (counts_one_of call.sleeps (takes_turn call call.loaded && has_sleepers call.loaded) _ _ refl refl) (counts_decided found call)
+counts_next stage.Try found call other = of_either (Counts call.sleeps) (found == call.loaded) (won call) _
+    (of_either (Counts call.sleeps) (takes_turn call call.loaded && has_sleepers call.loaded) _ _ refl refl) (counts_decided found call)
 counts_next stage.Pause found call other = refl
-counts_next stage.Mark found call other = counts_one_of call.sleeps (found == call.loaded) (marked call) _ refl (counts_decided found call)
+counts_next stage.Mark found call other = of_either (Counts call.sleeps) (found == call.loaded) (marked call) _ refl (counts_decided found call)
 counts_next stage.Sleep found call other = absurd (other refl)
 counts_next stage.Withdraw found call other =
-    counts_one_of call.sleeps (found == call.loaded) (withdrawn call) _
-    (counts_one_of call.sleeps (has_sleepers call.loaded && not (wakes_one call)) _ _ refl refl) (counts_decided found call)
-counts_next stage.Leave found call other = counts_one_of call.sleeps (found == call.loaded) (refused call) _ refl (counts_decided found call)
-counts_next stage.LookToRemove found call other = counts_one_of call.sleeps (has_sleepers found) (release_on found call) (subtract call) refl refl
+    of_either (Counts call.sleeps) (found == call.loaded) (withdrawn call) _
+    (of_either (Counts call.sleeps) (has_sleepers call.loaded && not (wakes_one call)) _ _ refl refl) (counts_decided found call)
+counts_next stage.Leave found call other = of_either (Counts call.sleeps) (found == call.loaded) (refused call) _ refl (counts_decided found call)
+counts_next stage.LookToRemove found call other = of_either (Counts call.sleeps) (has_sleepers found) (release_on found call) (subtract call) refl refl
 counts_next stage.Subtract found call other = counts_woken (release_of call.readers found call.down).1 call
 counts_next stage.Release found call other =
-    counts_one_of call.sleeps (found == call.loaded) _ (release_again found call) (counts_woken (release_of call.readers call.loaded call.down).1 call)
-    (counts_one_of call.sleeps (nat_lt call.pauses exchanges_before) _ (subtract call) refl refl)
+    of_either (Counts call.sleeps) (found == call.loaded) _ (release_again found call) (counts_woken (release_of call.readers call.loaded call.down).1 call)
+    (of_either (Counts call.sleeps) (nat_lt call.pauses exchanges_before) _ (subtract call) refl refl)
 counts_next stage.Wake found call other = refl
 counts_next stage.WakeRefused found call other = refl
 counts_next stage.WakeAcquired found call other = refl

@@ -1,6 +1,7 @@
 pub mod Kept
 pub mod Parking
 pub mod LastAccess
+pub mod Either
 pub mod Words
 pub mod Payments
 pub mod Steps

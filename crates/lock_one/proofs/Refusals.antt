@@ -11,6 +11,7 @@ use Rattle.lock_one.specs.declared.park.Debt.{Debt}
 use Rattle.lock_one.specs.declared.park.Debt.TheVariants as debt
 use Rattle.lock_one.specs.Machine.{Progress, has_sleepers, sleepers, admits_word, drops_turn, takes_turn, won, wakes_one, has_slept, word_withdrawn, pauses_before, exchanges_before, after_try, word_marked, sleep, mark_or_sleep, marked, time_out, withdrawn, refused, acquired, wait, decide, goes_to, begun, removes_reader, alone, release_on, release_of, release_again, subtract, wakes, taking, next_at}
 use Rattle.lock_one.specs.Answers.{IsLate, CauseAt, HasCause, RefusalsHaveCauses}
+use Rattle.lock_one.proofs.Either.{of_either}
 
 abbrev Clean : Call → Type 0
 Clean call = call.blocks ≡ false → (call.announced ≡ false) × (call.turned ≡ false)
@@ -137,22 +138,18 @@ begins_release readers d = by (removes_reader readers d)
 abbrev IsLateAs : Bool → Progress → Type 0
 IsLateAs late p = p.0.late ≡ late
 
-one_of : (late b : Bool) (p q : Progress) → IsLateAs late p → IsLateAs late q → IsLateAs late (if b then p else q)
-one_of late true p q first second = first
-one_of late false p q first second = second
-
 late_after_time_out : (call : Call) → IsLateAs call.late (time_out call)
-late_after_time_out call = one_of call.late (call.announced || drops_turn call) _ _ refl (one_of call.late (wakes_one call && (has_slept call && nat_lt call.loaded sleepers)) _ _ refl refl)
+late_after_time_out call = of_either (IsLateAs call.late) (call.announced || drops_turn call) _ _ refl (of_either (IsLateAs call.late) (wakes_one call && (has_slept call && nat_lt call.loaded sleepers)) _ _ refl refl)
 
 late_after_wait : (call : Call) → IsLateAs call.late (wait call)
 late_after_wait call =
-    one_of call.late (not call.blocks) _ _ refl
-    (one_of call.late call.late _ _ (late_after_time_out call)
-    (one_of call.late (nat_lt call.pauses pauses_before) _ _ refl (one_of call.late (word_marked call == call.loaded) _ _ refl refl)))
+    of_either (IsLateAs call.late) (not call.blocks) _ _ refl
+    (of_either (IsLateAs call.late) call.late _ _ (late_after_time_out call)
+    (of_either (IsLateAs call.late) (nat_lt call.pauses pauses_before) _ _ refl (of_either (IsLateAs call.late) (word_marked call == call.loaded) _ _ refl refl)))
 
 late_after_decision : (word : ℕ) (call : Call) → IsLateAs call.late (decide word call)
 late_after_decision word call =
-    one_of call.late (admits_word call.announced call.readers word call.want) _ _ refl (late_after_wait (record call { loaded = word }))
+    of_either (IsLateAs call.late) (admits_word call.announced call.readers word call.want) _ _ refl (late_after_wait (record call { loaded = word }))
 
 late_after_wake : (d : Debt) (call : Call) → IsLateAs call.late (wakes d call)
 late_after_wake debt.Nothing call = refl
@@ -163,18 +160,18 @@ late_after_wake debt.Turn call = refl
 
 late_next : (st : Stage) (found : ℕ) (call : Call) → (next_at st found call).0.late ≡ true → (call.late ≡ true) ⊎ ((st ≡ stage.Sleep) × (found ≡ 1))
 late_next stage.Look found call e = inl (sym (late_after_decision found call) ∙ e)
-late_next stage.Try found call e = inl (sym (one_of call.late (found == call.loaded) (won call) _ (one_of call.late (takes_turn call call.loaded && has_sleepers call.loaded) _ _ refl refl) (late_after_decision found call)) ∙ e)
+late_next stage.Try found call e = inl (sym (of_either (IsLateAs call.late) (found == call.loaded) (won call) _ (of_either (IsLateAs call.late) (takes_turn call call.loaded && has_sleepers call.loaded) _ _ refl refl) (late_after_decision found call)) ∙ e)
 late_next stage.Pause found call e = inl e
-late_next stage.Mark found call e = inl (sym (one_of call.late (found == call.loaded) (marked call) _ refl (late_after_decision found call)) ∙ e)
+late_next stage.Mark found call e = inl (sym (of_either (IsLateAs call.late) (found == call.loaded) (marked call) _ refl (late_after_decision found call)) ∙ e)
 late_next stage.Sleep found call e = inr (refl, eqb-true found 1 e)
 late_next stage.Withdraw found call e =
-    inl (sym (one_of call.late (found == call.loaded) (withdrawn call) _ (one_of call.late (has_sleepers call.loaded && not (wakes_one call)) _ _ refl refl) (late_after_decision found call)) ∙ e)
-late_next stage.Leave found call e = inl (sym (one_of call.late (found == call.loaded) (refused call) _ refl (late_after_decision found call)) ∙ e)
-late_next stage.LookToRemove found call e = inl (sym (one_of call.late (has_sleepers found) (release_on found call) (subtract call) refl refl) ∙ e)
+    inl (sym (of_either (IsLateAs call.late) (found == call.loaded) (withdrawn call) _ (of_either (IsLateAs call.late) (has_sleepers call.loaded && not (wakes_one call)) _ _ refl refl) (late_after_decision found call)) ∙ e)
+late_next stage.Leave found call e = inl (sym (of_either (IsLateAs call.late) (found == call.loaded) (refused call) _ refl (late_after_decision found call)) ∙ e)
+late_next stage.LookToRemove found call e = inl (sym (of_either (IsLateAs call.late) (has_sleepers found) (release_on found call) (subtract call) refl refl) ∙ e)
 late_next stage.Subtract found call e = inl (sym (late_after_wake (release_of call.readers found call.down).1 call) ∙ e)
 late_next stage.Release found call e =
-    inl (sym (one_of call.late (found == call.loaded) _ (release_again found call) (late_after_wake (release_of call.readers call.loaded call.down).1 call)
-    (one_of call.late (nat_lt call.pauses exchanges_before) _ (subtract call) refl refl)) ∙ e)
+    inl (sym (of_either (IsLateAs call.late) (found == call.loaded) _ (release_again found call) (late_after_wake (release_of call.readers call.loaded call.down).1 call)
+    (of_either (IsLateAs call.late) (nat_lt call.pauses exchanges_before) _ (subtract call) refl refl)) ∙ e)
 late_next stage.Wake found call e = inl e
 late_next stage.WakeRefused found call e = inl e
 late_next stage.WakeAcquired found call e = inl e

@@ -23,6 +23,7 @@ use Rattle.lock_one.specs.Rule.{is_asleep, is_shared, passes_turn, with_park, wa
 use Rattle.lock_one.specs.Machine.{Progress, is_exclusive, turn, sleepers, core_of, has_turn, has_sleepers, with_turn, admits_word, wakes_one, has_slept, is_due, pauses_before, sets_bar, sets_turn, word_marked, sleep, mark_or_sleep, marked, drops_turn, word_unbarred, word_withdrawn, time_out, withdrawn, takes_turn, after_other, after_try, won, decide, goes_to, acquiring, taking, refused, word_released, release_of, next_at}
 use Rattle.lock_one.specs.Steps.{made, touches, ends, Acquires, Awaits, IsAt, is_step}
 use Rattle.lock_one.specs.Runs.{Underway, Thread, LockInUse, views_of, limits_in, new_thread, new_lock, Act, join, acquires, releases, steps, turned_at, begins, may_acquire, may_release, is_idle, with_thread, view_to, any_asleep, answer, finds, goes_on, steps_by, paid, wake_at, wakes_by, step_at, step_in, step_by, acquire_by, release_by, after_act, after_acts, IsTurnOf, SomeoneTurns, ThreadsAreServed, EveryRunIsServed}
+use Rattle.lock_one.proofs.Either.{of_either}
 use Rattle.lock_one.proofs.Parking.{parties_of, party_of, party_at, rule_of}
 use Rattle.lock_one.proofs.Sleeps.{refused_at_rest}
 use Rattle.lock_one.proofs.Words.{encoded, encoded_turn, lessened, dropped, no_both, low_is, rest_leaves, small_core}
@@ -63,22 +64,18 @@ this_owns ts k t x at own = record { number = k; thread = x; is = placed ts k t 
 abbrev Flag : Hold → Progress → Type 0
 Flag before p = flag (goes_on p before) ≡ true
 
-flag_one_of : (before : Hold) (b : Bool) (p q : Progress) → Flag before p → Flag before q → Flag before (if b then p else q)
-flag_one_of before true p q first second = first
-flag_one_of before false p q first second = second
-
 flag_sleep : (before : Hold) (call : Call) → call.turned ≡ true → Flag before (sleep call)
 flag_sleep before call own =
     ap (λ (b : Bool). flag (if b then None else Some record { at = sleep call; before = before })) (quiet_sleep call).1 ∙ own
 
 flag_decided : (before : Hold) (word : ℕ) (call : Call) → call.turned ≡ true → call.blocks ≡ true → has_turn word ≡ true → Flag before (decide word call)
 flag_decided before word call own blocks set =
-    flag_one_of before (admits_word call.announced call.readers word call.want) _ _ own
+    of_either (Flag before) (admits_word call.announced call.readers word call.want) _ _ own
     (subst (λ b. Flag before (if not b then refused now else if call.late then time_out now else rest)) (sym blocks)
-    (flag_one_of before call.late (time_out now) rest
+    (of_either (Flag before) call.late (time_out now) rest
     (subst (λ b. Flag before (if b then withdraws else leaves)) (sym drops) own)
-    (flag_one_of before (nat_lt call.pauses pauses_before) _ _ own
-    (flag_one_of before (word_marked now == word) (sleep now) _ (flag_sleep before now own) own))))
+    (of_either (Flag before) (nat_lt call.pauses pauses_before) _ _ own
+    (of_either (Flag before) (word_marked now == word) (sleep now) _ (flag_sleep before now own) own))))
   where
     now : Call
     now = record call { loaded = word }

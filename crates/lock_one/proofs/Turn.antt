@@ -28,6 +28,7 @@ use Rattle.lock_one.specs.Steps.{made, touches, hold_at, Awaits, IsAt, is_step}
 use Rattle.lock_one.specs.Runs.{Underway, Thread, LockInUse, views_of, limits_in, Act, join, acquires, releases, steps, begins, may_acquire, may_release, with_thread, acquire_by, release_by, answer, after_act}
 use Rattle.lock_one.specs.Bars.{in_use}
 use Rattle.lock_one.specs.Turn.{tokens_of, acquires_by, acquisitions, keeps_turn, EndsTurn, ReadersGetATurn}
+use Rattle.lock_one.proofs.Either.{of_either}
 use Rattle.lock_one.proofs.Parking.{parties_of, party_of, party_at, rule_of}
 use Rattle.lock_one.proofs.Words.{encoded, encoded_core, encoded_turn, lessened, dropped, low_is, high_is, turn_is, turn_clear, rest_leaves, small_core}
 use Rattle.lock_one.proofs.RunViews.{IsPlaced, RunKept, view_in}
@@ -63,19 +64,15 @@ left_by call word w =
 abbrev Bars : Hold → Call → Progress → Type 0
 Bars before call p = (hold_at p.0.stage p.0 before).announced ≡ true → call.announced ≡ true
 
-bars_one_of : (before : Hold) (call : Call) (b : Bool) (p q : Progress) → Bars before call p → Bars before call q → Bars before call (if b then p else q)
-bars_one_of before call true p q first second = first
-bars_one_of before call false p q first second = second
-
 bars_decided : (before : Hold) (word : ℕ) (call : Call) → Bars before call (decide word call)
 bars_decided before word call =
     let now : Call = record call { loaded = word } in
-    bars_one_of before call (admits_word call.announced call.readers word call.want) _ _ (λ e. e)
-    (bars_one_of before call (not call.blocks) _ _ (λ e. absurd (false≢true e))
-    (bars_one_of before call call.late _ _
-    (bars_one_of before call (call.announced || drops_turn now) _ _ (λ e. e)
-    (bars_one_of before call (wakes_one call && (has_slept call && nat_lt word sleepers)) _ _ (λ e. e) (λ e. absurd (false≢true e))))
-    (bars_one_of before call (nat_lt call.pauses pauses_before) _ _ (λ e. e) (bars_one_of before call (word_marked now == word) _ _ (λ e. e) (λ e. e)))))
+    of_either (Bars before call) (admits_word call.announced call.readers word call.want) _ _ (λ e. e)
+    (of_either (Bars before call) (not call.blocks) _ _ (λ e. absurd (false≢true e))
+    (of_either (Bars before call) call.late _ _
+    (of_either (Bars before call) (call.announced || drops_turn now) _ _ (λ e. e)
+    (of_either (Bars before call) (wakes_one call && (has_slept call && nat_lt word sleepers)) _ _ (λ e. e) (λ e. absurd (false≢true e))))
+    (of_either (Bars before call) (nat_lt call.pauses pauses_before) _ _ (λ e. e) (of_either (Bars before call) (word_marked now == word) _ _ (λ e. e) (λ e. e)))))
 
 module _ (call : Call) (v : ParkView) (before : Hold) (word : ℕ) (set : has_turn word ≡ true) (small : word < 2 ^ 37) (core_small : core_of word < 2 ^ 35)
     (no_turn : IsTrue (wakes_one call) → has_turn word ≡ false) (clean : before.announced ≡ false)
