@@ -17,12 +17,12 @@ impl WordLock {
         ensures acquired { IfSome result (IsTokenOf self.now mode) }
         ensures tried { WasTried self.now (want_of_mode mode) (is_some result) }
     {
-        let (looked, mut seat) = self.enter(ExWant::of_mode(mode), false);
+        let (looked, mut seat) = self.begin(ExWant::of_mode(mode), false);
         let ended = self.attempt(&mut seat, looked);
         if ended.is_ok() {
             return Some(seat.into_token());
         }
-        seat.leave();
+        seat.end();
         None
     }
 
@@ -63,12 +63,12 @@ impl WordLock {
         ensures refused { IfNone result (HasTimedOut self.now) }
         ensures over { IfNone result (U.has_end ≡ true) }
     {
-        let (looked, mut seat) = self.enter(ExWant::of_mode(mode), true);
+        let (looked, mut seat) = self.begin(ExWant::of_mode(mode), true);
         let ended = self.come_to_end(rt, &mut seat, looked, until);
         if ended.is_ok() {
             return Some(seat.into_token());
         }
-        seat.leave();
+        seat.end();
         None
     }
 }

@@ -34,7 +34,7 @@ impl WordLock {
     {
         let mut seat = token.into_seat();
         self.take(&mut seat, Down::of_mode(mode));
-        seat.leave();
+        seat.end();
     }
 
     /// Makes an exclusive token shared, and wakes the sleepers that this unblocks.
@@ -73,7 +73,7 @@ impl WordLock {
         ensures upgraded { MatchResult result (IsTokenOf self.now Exclusive) (λ back. back ≡ token) }
         ensures tried { WasTried self.now Upgrade (is_ok result) }
     {
-        let (looked, mut seat) = self.enter_upgrade(token, false);
+        let (looked, mut seat) = self.begin_upgrade(token, false);
         let ended = self.attempt(&mut seat, looked);
         let upgraded = ended.is_ok();
         let token = seat.into_token();
@@ -118,7 +118,7 @@ impl WordLock {
         ensures refused { OnErr result (HasTimedOut self.now) }
         ensures over { OnErr result (U.has_end ≡ true) }
     {
-        let (looked, mut seat) = self.enter_upgrade(token, true);
+        let (looked, mut seat) = self.begin_upgrade(token, true);
         let ended = self.come_to_end(rt, &mut seat, looked, until);
         let upgraded = ended.is_ok();
         let token = seat.into_token();

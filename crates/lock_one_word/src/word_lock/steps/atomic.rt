@@ -22,7 +22,7 @@ impl WordLock {
 
     /// Loads the word, by a new seat.
     #[inline(always)]
-    pub(super) fn arrive(&self) -> (u64, CallSeat)
+    pub(super) fn load_new_seat(&self) -> (u64, CallSeat)
         ensures table { result.1.seat.table_id ≡ self.now.id }
         ensures new { result.1.seat.me ≡ (newcomer self.now.readers, []) }
         ensures goes { Goes Load result.1.seat.me result.0 result.1.seat.me }

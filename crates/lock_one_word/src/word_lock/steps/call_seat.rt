@@ -32,7 +32,7 @@ impl CallSeat {
     }
 
     /// Ends the call of a seat that holds nothing.
-    pub(crate) fn leave(self)
+    pub(crate) fn end(self)
         requires { self.seat.me.0.held ≡ no_hold }
     {
         let CallSeat { seat } = self;

@@ -23,14 +23,14 @@ use lock_word::{Down, ExWant};
 impl WordLock {
     /// Begins a call of a new seat, by its load.
     #[inline(always)]
-    pub(crate) fn enter(&self, want: ExWant, blocks: bool) -> (Looked, CallSeat)
+    pub(crate) fn begin(&self, want: ExWant, blocks: bool) -> (Looked, CallSeat)
         requires awaited { IsTrue (is_awaited want) }
         requires has { IsTrue (hold_has no_hold (step_of_want want)) }
         ensures table { (result.1.seat.table_id ≡ self.now.id) × (result.1.seat.me.1 ≡ []) × (result.1.seat.me.0.readers ≡ self.now.readers) × (result.1.seat.me.0.held ≡ no_hold) }
         ensures call { result.0.blocks ≡ blocks }
         ensures going { IsGoing (looked_at result.0) no_hold (to_acquire want) result.1.seat.me.0 }
     {
-        let (word, seat) = self.arrive();
+        let (word, seat) = self.load_new_seat();
         let looked = Looked {
             readers: self.readers,
             want,
@@ -42,7 +42,7 @@ impl WordLock {
 
     /// Begins the upgrade of a token, by its load.
     #[inline(always)]
-    pub(crate) fn enter_upgrade(&self, token: WordToken, blocks: bool) -> (Looked, CallSeat)
+    pub(crate) fn begin_upgrade(&self, token: WordToken, blocks: bool) -> (Looked, CallSeat)
         requires { IsTokenOf self.now Upgradable token }
         ensures table { (result.1.seat.table_id ≡ self.now.id) × (result.1.seat.me.1 ≡ []) × (result.1.seat.me.0.readers ≡ self.now.readers) }
         ensures call { result.0.blocks ≡ blocks }

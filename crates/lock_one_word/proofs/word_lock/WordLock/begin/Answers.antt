@@ -5,16 +5,16 @@ use Rattle.lock_one.specs.Machine.{acquiring, next_of}
 use Rattle.lock_one_word.specs.Calls.{WordLockView}
 use Rattle.lock_one_word.specs.Seats.{Self, to_acquire, IsGoing}
 use Rattle.lock_one_word.proofs.Begins.{first_look}
-use Rattle.lock_one_word.proofs.word_lock.WordLock.enter.Goals as goal
+use Rattle.lock_one_word.proofs.word_lock.WordLock.begin.Goals as goal
 
 pub returns-clause-going : goal.returns-clause-going
 returns-clause-going c =
-    let word = c.arrive-word.result.0 in
-    let me = c.arrive-word.result.1.seat.me in
-    let new = c.arrive-word.ensures.new in
+    let word = c.load_new_seat-word.result.0 in
+    let me = c.load_new_seat-word.result.1.seat.me in
+    let new = c.load_new_seat-word.ensures.new in
     let fresh : me.0.held ≡ no_hold = ap (λ (m : Self). m.0.held) new in
     let begun = acquiring c.self.inside.readers c.args.want c.args.blocks true in
     subst (λ h. IsGoing (next_of word begun.0) h (to_acquire c.args.want) me.0) fresh
     (first_look c.self.inside.readers word c.args.want c.args.blocks me begun (next_of word begun.0) (ap (λ (l : WordLockView). l.readers) c.self.view_is ∙ sym (ap (λ (m : Self). m.0.readers) new))
     (ap (λ (m : Self). m.0.held.announced) new) refl c.requires.awaited
-    (subst (λ h. IsTrue (hold_has h (step_of_want c.args.want))) (sym fresh) c.requires.has) c.arrive-word.ensures.goes refl)
+    (subst (λ h. IsTrue (hold_has h (step_of_want c.args.want))) (sym fresh) c.requires.has) c.load_new_seat-word.ensures.goes refl)

@@ -7,7 +7,7 @@ use Rattle.lock_one_word.specs.Calls.{WordLockView, TokenView, one_hold}
 use Rattle.lock_one_word.specs.Seats.{Self, to_acquire}
 use Rattle.lock_one_word.proofs.Begins.{first_upgrade}
 use Rattle.lock_one_word.proofs.Straight.{goes}
-use Rattle.lock_one_word.proofs.word_lock.WordLock.enter_upgrade.Goals as goal
+use Rattle.lock_one_word.proofs.word_lock.WordLock.begin_upgrade.Goals as goal
 
 pub load_word-word-requires : goal.load_word-word-requires
 load_word-word-requires c = ap (λ (t : TokenView). t.lock.id) (sym c.into_seat-seat.ensures.token ∙ c.requires)

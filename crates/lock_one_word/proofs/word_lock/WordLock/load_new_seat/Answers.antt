@@ -4,7 +4,7 @@ use Rattle.lock_one.specs.Machine.{next_of}
 use Rattle.lock_one_word.specs.Calls.{WordLockView}
 use Rattle.lock_one_word.specs.Seats.{Self, newcomer, IsGoing}
 use Rattle.lock_one_word.proofs.Seats.{enters}
-use Rattle.lock_one_word.proofs.word_lock.WordLock.arrive.Goals as goal
+use Rattle.lock_one_word.proofs.word_lock.WordLock.load_new_seat.Goals as goal
 
 pub load_new_seat-stored-requires : goal.load_new_seat-stored-requires
 load_new_seat-stored-requires c = (search rules, enters _ _)
