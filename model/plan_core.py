@@ -6,7 +6,7 @@ import itertools
 
 from plan_text import ACQUIRED, CHANGED, RELEASED
 
-SECOND_WAYS = {"try", "repeat", "forever", "either", "or", "if", "until", "timed sleep"}
+SECOND_WAYS = {"try", "repeat", "forever", "either", "pick", "or", "if", "timed sleep"}
 
 
 def core_text(plan):
@@ -30,7 +30,7 @@ def party_text(copies, is_started):
     """The lines of parties that share their places. One that is started idles at a place of its own before them."""
     party = copies[0]
     head = f"\n{'server' if party.is_server else 'party'} {' '.join(it.name for it in copies)}\n"
-    first = party.lines[0].number if party.lines else 0
+    first = party.program[0].line.number if party.program else 0
     before = [("idle", [2], first)] if is_started else []
     rows = before + [(act_of(it.line), [way + 1 + is_started for way in ways_of(it)], it.line.number) for it in party.program]
     return head + "".join(place_text(number, len(rows), *row) for number, row in enumerate(rows, 1))
@@ -43,12 +43,9 @@ def place_text(number, count, act, ways, line):
 
 
 def ways_of(place):
-    """The places after a place, of a look first the one for a true flag."""
+    """The places after a place."""
     word, other = place.line.word, place.next if place.other is None else place.other
-    if word not in SECOND_WAYS:
-        return [place.next]
-    is_swapped = word == "if" and not place.line.value or word == "until" and place.line.value
-    return [other, place.next] if is_swapped else [place.next, other]
+    return [place.next, other] if word in SECOND_WAYS else [place.next]
 
 
 def act_of(line):
@@ -58,11 +55,11 @@ def act_of(line):
             return call_text(line.call)
         case "try":
             return f"try {call_text(line.call)}"
-        case "if" | "until":
+        case "if":
             return f"if {line.name}"
         case "repeat" | "forever":
             return "repeat"
-        case "either" | "or":
+        case "either" | "pick" | "or":
             return "either"
         case "timed sleep":
             return f"sleep {line.name} or timeout"

@@ -25,20 +25,23 @@ CALLS = {*ACQUIRED, *RELEASED, *CHANGED}
 # calls that join the line of a fair lock, and calls that may be tried
 ACQUISITIONS = {"lock", "read", "write", "upgradable_read"}
 TRIED = {*ACQUISITIONS, "upgrade"}
+# other words of calls
+SAME_CALLS = {"unlock_upgradable_read": "unlock_upgradable"}
 # lines of one word, each of a block
 BLOCK_WORDS = {"repeat", "forever", "either", "else", "or", "end", "leave", "return"}
 # words of a text with which a block begins, lines with which one begins, and those of them to which a party comes back at its end
 BLOCKS = {"repeat", "forever", "either", "try", "if"}
-BEGINS = {*BLOCKS, "until", "timed sleep"}
+BEGINS = {*BLOCKS, "until", "timed sleep", "pick", "enter"}
 LOOPS = {"repeat", "until", "forever"}
 # what a line in the midst of a block makes of it, by the line with which the block began or went on; and what may come before its end
-TURNS = {("else", "try"): "else", ("else", "if"): "else", ("else", "timed sleep"): "else", ("or", "either"): "or", ("or", "or"): "or"}
-ENDS = {*LOOPS, "try", "if", "else", "or"}
+TURNS = {("else", "try"): "else", ("else", "if"): "else", ("else", "timed sleep"): "else", ("or", "either"): "or", ("or", "or"): "or", ("or", "pick"): "or"}
+ENDS = {*LOOPS, "try", "if", "else", "or", "enter", "def"}
 PARTS = {"else", "or", "end"}
-# words of a loop with two looks, which no flag of it may have for a name
-BETWEEN_LOOKS = {"not", "or", "timeout"}
+# words of a condition with several looks, which no flag of it may have for a name
+BETWEEN_LOOKS = {"not", "and", "or", "timeout"}
 SLEEPS = {"sleep", "timed sleep"}
-DECLARED = {"mutex", "rwlock", "reentrant", "flag", "condvar"}
+LOCK_LINES = {"mutex", "rwlock", "reentrant"}
+DECLARED = {*LOCK_LINES, "flag", "condvar"}
 WORD = re.compile(r"[^ \t\r]+")
 NAME = re.compile(r"[A-Za-z0-9_.-]+")
 LIMIT = re.compile(r"[1-9][0-9]{0,9}")
@@ -50,6 +53,7 @@ LONGEST_INPUT = 2**20
 MOST_NUMBERED = 2**128 - 1
 MOST_COPIES = 64
 MOST_OPEN = 64
+MOST_PARAMETERS = 64
 
 
 class Fault(Exception):
@@ -68,24 +72,34 @@ class Call(NamedTuple):
     lock: str
 
 
+class Block(str):
+    """The word of a line `call` or `pick` that is written out: the lines below, up to an `end`, are those that it stands for."""
+
+
+class Inline(str):
+    """The word of a line `pick` with one choice, which is written in the lines below."""
+
+
 class Line(NamedTuple):
     """A line of a party: a word of a block, `call` or `try` with a call, or a word with a name.
 
-    A line `wait` of the text becomes several: see `wait_lines`.
+    A line `wait` of the text becomes several: see `wait_lines`. The number of a line of a function is `N from M`, where `M` is that of the call.
     """
 
-    number: int
+    number: int | str
     word: str
     call: Call | None = None
     name: str = ""
-    # the value of the flag at which `until` ends, for which the first part of an `if` is, and which `assert` wants
+    # the value of the flag that `assert` wants
     value: bool = True
+    # the condition at which `until` ends, or for which the first part of an `if` is: all looks of one of these groups, each a flag and its value
+    test: tuple = ()
 
 
 class Place(NamedTuple):
     """A place of a program: its line, the place after it, and the one after a refused try or a timeout, or where a part is passed.
 
-    The first part of an `if` is passed where its flag has the other value.
+    Each look of a condition is a place with the word `if`. The place after it is that for a true flag, and the other one that for a false flag.
     """
 
     line: Line
@@ -117,6 +131,7 @@ class Plan(NamedTuple):
     mentions: list
     called: list
     open: list
+    functions: dict
 
     def number_of(self, name):
         return [it.name for it in self.parties].index(name)
@@ -144,16 +159,16 @@ def read_plan(text):
     words = [] if len(text) > LONGEST_INPUT else expanded([it for it in words if it[1]])
     if len(text) > LONGEST_INPUT or length_of(words) > LONGEST_INPUT:
         raise Fault("input too long")
-    plan = Plan({}, {}, [], [], [], [], [])
+    plan = Plan({}, {}, [], [], [], [], [], {})
     for number, fields in words:
         if not read_line(plan, number, fields):
-            raise Fault(f"bad line {number}")
+            raise Fault(f"bad line {str(number).split()[0]}")
     if plan.open or not words:
         raise Fault(f"bad line {len(lines) + 1}")
     names = {it.name for it in plan.parties}
     for mention in plan.mentions:
         if mention.name not in names:
-            raise Fault(f"line {mention.number}: unknown party")
+            raise fault_of(mention.number, "unknown party")
     check_begun(plan)
     for party in plan.parties:
         party.program.extend(places(party.lines))
@@ -162,12 +177,111 @@ def read_plan(text):
     return plan
 
 
+def fault_of(number, why):
+    """The fault of a line with this number, which names the calls around it."""
+    line, *calls = str(number).split(" from ")
+    return Fault(", ".join([f"line {line}: {why}", *(f"from line {it}" for it in calls)]))
+
+
 def expanded(lines):
     """The lines, each a number and its words, with those that are short for several expanded."""
-    found = for_copies([it for line in lines for it in rows(*line)])
+    found = for_copies([it for line in with_functions(lines) for it in rows(*line)])
     heads = [at for at, (_, words) in enumerate(found) if words[0] in ("party", "server")]
     parts = [found[begin:end] for begin, end in itertools.pairwise([*heads, len(found)])]
-    return turns([*found[: heads[0] if heads else None], *[it for part in parts for it in by_index(part)]])
+    found = [*found[: heads[0] if heads else None], *[it for part in parts for it in by_index(part)]]
+    locks = {words[1] for _, words in found if words[0] in LOCK_LINES and len(words) > 1}
+    return turns(with_picks(found, locks))
+
+
+def is_head(words):
+    """Whether a line of these words begins parties."""
+    return words[0] in ("party", "server")
+
+
+def begins_block(words):
+    """Whether a line of these words begins a block with an `end`."""
+    return words[0] in BLOCKS or words[0] == "def" or isinstance(words[0], Block)
+
+
+def replaced(words, others):
+    """The words, where those after the first one are others by this table."""
+    return [words[0], *(others.get(it, it) for it in words[1:])]
+
+
+def with_functions(lines):
+    """The lines, with those of a function below each call of it, and an `end` below them. Of the function itself its first line and its `end` are left."""
+    functions, found, at = {}, [], 0
+    while at < len(lines):
+        words = lines[at][1]
+        if words[0] != "def":
+            found += called(functions, *lines[at], len(functions))
+            at += 1
+            continue
+        end = end_of_function(lines, at + 1)
+        if len(words) > 1:
+            functions.setdefault(words[1], (len(functions), words[2:], lines[at + 1 : end]))
+        has_end = end < len(lines) and lines[end][1] == ["end"]
+        found += [lines[at], *([lines[end]] if has_end else [])]
+        at = end + has_end
+    return found
+
+
+def end_of_function(lines, at):
+    """Where the `end` of a function is whose lines begin here, or else the next function or party."""
+    depth = 0
+    while at < len(lines) and not (is_head(lines[at][1]) or lines[at][1][0] == "def" or lines[at][1] == ["end"] and not depth):
+        depth += begins_block(lines[at][1]) - (lines[at][1] == ["end"])
+        at += 1
+    return at
+
+
+def called(functions, number, words, above):
+    """The line and, where it calls one of the first so many functions with as many words as that has parameters, those of the function."""
+    which, parameters, body = functions.get(words[1], (above, [], [])) if words[0] == "call" and len(words) > 1 else (above, [], [])
+    if which >= above or len(words) != 2 + len(parameters):
+        return [(number, words)]
+    arguments = dict(zip(parameters, words[2:]))
+    inside = [(f"{line} from {number}", replaced(it, arguments)) for line, it in body]
+    return [(number, [Block("call"), *words[1:]]), *(it for line in inside for it in called(functions, *line, which)), (number, ["end"])]
+
+
+def with_picks(lines, locks):
+    """The lines, with those below a `pick` up to the end of the part once for each lock among which it chooses."""
+    found, at = [], 0
+    while at < len(lines):
+        number, words = lines[at]
+        at += 1
+        choices = choices_of(words, locks)
+        if not choices:
+            found.append((number, words))
+            continue
+        end = end_of_part(lines, at)
+        parts = [with_picks([(it, replaced(those, {words[1]: lock})) for it, those in lines[at:end]], locks) for lock in choices]
+        found.append((number, [(Block if len(choices) > 1 else Inline)("pick"), *words[1:]]))
+        found += parts[0]
+        for part in parts[1:]:
+            found += [(number, ["or"]), *part]
+        found += [(number, ["end"])] if len(choices) > 1 else []
+        at = end
+    return found
+
+
+def choices_of(words, locks):
+    """The locks among which a line of these words chooses, if it is a `pick`."""
+    match words:
+        case ["pick", _, "of", row, *rest] if not rest or len(rest) == 2 and rest[0] == "except":
+            names = itertools.takewhile(lambda it: it in locks, (f"{row}.{it}" for it in range(1, MOST_COPIES + 1)))
+            return [it for it in names if it not in rest[1:]]
+    return []
+
+
+def end_of_part(lines, at):
+    """Where the part of a block ends that goes on here."""
+    depth = 0
+    while at < len(lines) and not is_head(lines[at][1]) and (depth or lines[at][1][0] not in PARTS):
+        depth += begins_block(lines[at][1]) - (lines[at][1] == ["end"])
+        at += 1
+    return at
 
 
 def rows(number, words):
@@ -214,10 +328,10 @@ def turns(lines):
     found, opened = [], []
     for line in lines:
         words = line[1]
-        if words[0] in BLOCKS:
+        if begins_block(words):
             opened.append((number_of(words[1], MOST_COPIES) if words[0] == "repeat" and len(words) == 2 else 0, len(found)))
         count, at = opened.pop() if words == ["end"] and opened else (0, 0)
-        if count < 2:
+        if count < 1:
             found.append(line)
             continue
         if length_of(found[at + 1 :]) * count > LONGEST_INPUT:
@@ -251,20 +365,28 @@ def check_begun(plan):
         begun += [it.name for it in lines[name] if it.word == "start"]
     for name in lines if len(begun) < len(lines) else []:
         if name not in begun:
-            raise Fault(f"line {starts[name]}: never begins")
+            raise fault_of(starts[name], "never begins")
 
 
 def read_line(plan, number, words):
     """Adds what the line says to the plan, and returns whether it is in the format."""
+    if words == ["end"] and plan.open[-1:] == ["def"]:
+        plan.open.pop()
+        return True
     lines = lines_of(plan, number, words)
-    if lines:
+    if lines is not None:
         return plan.parties != [] and all(add_line(plan, it) for it in lines)
     return not plan.open and len(words) > 1 and NAME.fullmatch(words[1]) is not None and read_names(plan, *words)
 
 
 def lines_of(plan, number, words):
-    """The lines of a party which these words of a line say, or none where they say no such line."""
+    """The lines of a party which these words of a line say, or None where they say no such line."""
+    words = [SAME_CALLS.get(words[0], words[0]), *words[1:]] if len(words) == 2 else words
     match words:
+        case ["call", name, *arguments] if isinstance(words[0], Block) and name in plan.functions and all(map(NAME.fullmatch, arguments)):
+            return [Line(number, "enter", name=name)]
+        case ["pick", *names] if isinstance(words[0], Block | Inline) and all(map(NAME.fullmatch, names)):
+            return [Line(number, "pick")] if isinstance(words[0], Block) else []
         case [word] if word in BLOCK_WORDS:
             return [Line(number, word)]
         case ["try", word, lock] if word in TRIED and lock in plan.locks:
@@ -277,44 +399,52 @@ def lines_of(plan, number, words):
             return [Line(number, word, name=name)]
         case [("notify_one" | "notify_all") as word, name] if name in plan.condvars:
             return [Line(number, word, name=name)]
-        case ["assert" | "if" as word, *test]:
-            return test_lines(plan, number, word, test)
-        case ["repeat", "until", *looks]:
-            return until_lines(plan, number, looks)
+        case ["assert", *test]:
+            look = look_of(plan, test)
+            return look and [Line(number, "assert", name=look[0], value=look[1])]
+        case ["if", *test]:
+            return test_lines(plan, number, "if", test)
+        case ["repeat", "until", *test]:
+            return test_lines(plan, number, "until", test)
         case ["wait", condvar, mutex, *rest] if condvar in plan.condvars and mutex in plan.locks:
             return wait_lines(plan, number, condvar, mutex, rest)
-    return []
+    return None
 
 
-def test_lines(plan, number, word, test):
-    """The line with this word and this test, `FLAG` or `not FLAG`, or none where it is no test."""
-    is_not = test[:1] == ["not"] and len(test) == 2
-    return [Line(number, word, name=test[-1], value=not is_not)] if len(test) == 1 + is_not and test[-1] in plan.flags else []
+def look_of(plan, words):
+    """The flag and the value of a look, `FLAG` or `not FLAG`, or None."""
+    is_not = words[:1] == ["not"] and len(words) == 2
+    return (words[-1], not is_not) if len(words) == 1 + is_not and words[-1] in plan.flags else None
 
 
-def until_lines(plan, number, looks):
-    """The first lines of a loop with these words after `until`, or none where they are wrong.
+def condition_of(plan, words):
+    """The groups of looks of a condition, or None where the words are none. `or` separates groups, and `and` the looks of a group."""
+    if look := look_of(plan, words):
+        return ((look,),)
+    groups = [[it.split() for it in group.split(" and ")] for group in " ".join(words).split(" or ")]
+    looks = tuple(tuple(look_of(plan, it) if it else None for it in group) for group in groups)
+    is_right = all(it and it[0] not in BETWEEN_LOOKS for group in looks for it in group)
+    return looks if is_right else None
 
-    They are a test, or two with `or` between them. After the first of two the party makes the second, which leads past the loop by a `leave`.
-    """
-    for at in (it for it, word in enumerate(looks) if word == "or"):
-        lines = [test_lines(plan, number, word, test) for word, test in (("until", looks[:at]), ("if", looks[at + 1 :]))]
-        if all(lines) and not BETWEEN_LOOKS & {it.name for those in lines for it in those}:
-            return [*lines[0], *lines[1], Line(number, "leave"), Line(number, "end")]
-    return test_lines(plan, number, "until", looks)
+
+def test_lines(plan, number, word, words):
+    """The line with this word and this condition, or None where it is none."""
+    test = condition_of(plan, words)
+    return test and [Line(number, word, test=test)]
 
 
 def wait_lines(plan, number, condvar, mutex, rest):
-    """The lines of a wait, or none where the words after its mutex are wrong.
+    """The lines of a wait, or None where the words after its mutex are wrong.
 
     They are `wait` with the release of the mutex, `sleep`, and the call that acquires the mutex again. With flags, they lie between
     the first lines of a loop and `end`. A `timed sleep` begins a block of two parts: the first for a party that is woken, the second after a timeout.
     """
-    is_timed = rest[-2:] == ["or", "timeout"]
+    until = test_lines(plan, number, "until", rest[1:]) if rest[:1] == ["until"] else None
+    is_timed = not until and rest[-2:] == ["or", "timeout"]
     rest = rest[:-2] if is_timed else rest
-    until = until_lines(plan, number, rest[1:]) if rest[:1] == ["until"] else []
+    until = until or (test_lines(plan, number, "until", rest[1:]) if rest[:1] == ["until"] else None)
     if rest and not until:
-        return []
+        return None
     release, lock = Line(number, "wait", Call("unlock", mutex), condvar), Line(number, "call", Call("lock", mutex))
     sleep = Line(number, "timed sleep" if is_timed else "sleep", name=condvar)
     second, leave, end = (Line(number, it) for it in ("else", "leave", "end"))
@@ -326,9 +456,10 @@ def wait_lines(plan, number, condvar, mutex, rest):
 def add_line(plan, line):
     """Adds a line to the parties whose lines come here, and returns whether it fits them and the open blocks."""
     word, inner, is_in_loop = line.word, "".join(plan.open[-1:]), any(it in LOOPS for it in plan.open)
+    around = next((it for it in reversed(plan.open) if it in LOOPS or it == "enter"), "")
     if word == "start" and (plan.is_started(line.name) or is_in_loop or len(plan.called) > 1):
         return False
-    if word == "leave" and not is_in_loop or word == "return" and not inner:
+    if word == "leave" and around not in LOOPS or word == "return" and not inner:
         return False
     if word in BEGINS:
         plan.open.append(word)
@@ -347,6 +478,11 @@ def add_line(plan, line):
 
 def read_names(plan, word, name, *rest):
     """Adds the lock, flag, condition variable or parties of a line with this word and this name, and returns whether it is right."""
+    if word == "def":
+        is_right = all(map(NAME.fullmatch, rest)) and len({*rest}) == len(rest) <= MOST_PARAMETERS and name not in plan.functions
+        plan.functions[name] = len(rest)
+        plan.open.append("def")
+        return is_right
     if word in ("party", "server"):
         return read_parties(plan, word == "server", name, rest)
     if word == "flag":
@@ -356,8 +492,9 @@ def read_names(plan, word, name, *rest):
     if word == "condvar":
         plan.condvars.append(name)
         return not rest and plan.condvars.count(name) == 1
-    limit = 1 if word == "mutex" else number_of("".join(rest[:1]), LARGEST_LIMIT)
-    last = rest[word != "mutex" :]
+    has_limit = word == "reentrant" or word == "rwlock" and "".join(rest[:1])[:1].isdigit()
+    limit = number_of("".join(rest[:1]), LARGEST_LIMIT) if has_limit else 1 if word == "mutex" else LARGEST_LIMIT
+    last = rest[has_limit:]
     has_bar, is_fair = word == "rwlock" and last == ("bar",), word != "reentrant" and last == ("fair",)
     is_right = word in ("mutex", "rwlock", "reentrant") and limit and len(last) == has_bar + is_fair and name not in plan.locks
     plan.locks[name] = Lock(word, limit, has_bar, is_fair)
@@ -380,7 +517,9 @@ def read_parties(plan, is_server, name, rest):
 
 
 def places(lines):
-    """The program of these lines. Each line is a place, but for jumps, `else`, `end`, and an `or` before the last part of its branch.
+    """The program of these lines. Each line is a place, but for jumps, `else`, `end`, `enter`, and an `or` before the last part of its branch.
+
+    A line with a condition is a place for each look. A party goes from a true look to the next one of its group, and from a false one to the next group.
 
     From the last line to the first, `after` is the line of the next step. Each open block has its begin, the next step after it, and
     the step at which a part is passed, None below the last part.
@@ -400,20 +539,38 @@ def places(lines):
         elif word == "leave":
             after = next(end for start, end, _ in reversed(blocks) if lines[start].word in LOOPS)
         elif word == "return":
-            after = len(lines)
+            after = next((end for start, end, _ in reversed(blocks) if lines[start].word == "enter"), len(lines))
         elif word in PARTS:
             if past is not None:
-                ways[at] = after, past
+                ways[at] = lines[at], after, past
             blocks[-1] = begin, leave, after if past is None else at
             after = leave
         else:
             if word in BEGINS:
                 blocks.pop()
+            if word == "enter":
+                continue
             is_branch = word in BEGINS - {"forever"}
-            ways[at] = after, (leave if past is None else past) if is_branch else None
+            outside = (leave if past is None else past) if is_branch else None
+            if lines[at].test:
+                ways |= looks_of(at, lines[at], *((outside, after) if word == "until" else (after, outside)))
+            else:
+                ways[at] = lines[at], after, outside
             after = at
     number = {at: it for it, at in enumerate([*sorted(ways), len(lines)])} | {None: None}
-    return [Place(lines[at], number[after], number[other]) for at, (after, other) in sorted(ways.items())]
+    return [Place(line, number[after], number[other]) for _, (line, after, other) in sorted(ways.items())]
+
+
+def looks_of(at, line, yes, no):
+    """The looks of a line with a condition, with where a true one and a false one lead. They lie between the line and the next one."""
+    begins = [*itertools.accumulate([0, *map(len, line.test)])]
+    found = {}
+    for begin, end, group in zip(begins, begins[1:], line.test):
+        for look, (name, value) in enumerate(group, begin):
+            is_so = yes if look + 1 == end else at + (look + 1) / begins[-1]
+            is_not = no if end == begins[-1] else at + end / begins[-1]
+            found[at + look / begins[-1]] = line._replace(word="if", name=name, test=()), *((is_so, is_not) if value else (is_not, is_so))
+    return found
 
 
 def find_holds(plan, party):
@@ -422,14 +579,14 @@ def find_holds(plan, party):
     known[0] = ()
     for at, (line, after, other) in enumerate(party.program):
         if at not in known:
-            raise Fault(f"line {line.number}: never reached")
+            raise fault_of(line.number, "never reached")
         holds = known[at]
         why = call_fault(plan, holds, line) if line.call else None
         if why is not None:
-            raise Fault(f"line {line.number}: {why}")
+            raise fault_of(line.number, why)
         for target, brought in [(after, holds_after(holds, line.call) if line.call else holds), (other, holds)]:
             if target is not None and known.setdefault(target, brought) != brought:
-                raise Fault(f"line {line.number}: holds differ")
+                raise fault_of(line.number, "holds differ")
 
 
 def call_fault(plan, holds, line):

@@ -26,13 +26,13 @@ CHANGES = {
 SPOILS = [
     "", " ", "\n", "x", "0", "\r", "\u00e9", " bar", " fair", "4294967296", "lock0", "party p1\n", "server p 2\n", "mutex lock0\n",
     "end\n", " not", " until flag0", " or flag0", " true", "flag flag0\n", "condvar cond0\n", "start p1\n", " or timeout", " *", "[i]", "[i+1]", "[2]", " 2",
-    "repeat 2\n", "leave\n", "return\n",
+    "repeat 2\n", "leave\n", "return\n", "repeat 1\n", "def f0 x\n", "call f0\n", "call f0 lock0\n", "pick y of row\n", " and flag0", " and not flag1",
 ]
-STRAY_BLOCKS = ["repeat", "either", "else", "or", "end", "forever", "repeat 2", "leave", "return"]
+STRAY_BLOCKS = ["repeat", "either", "else", "or", "end", "forever", "repeat 2", "leave", "return", "repeat 1", "def f9", "call f0", "pick y of row"]
 STRAY_SIGNALS = [
     "set flag0", "if flag0", "if not flag0", "wait cond0 lock0", "start p1", "join p9", "notify_all cond0", "assert flag0", "repeat until flag0",
     "wait cond0 lock0 until flag0 or timeout", "start p2 *", "join p1 *",
-    "repeat until flag0 or not flag1", "wait cond0 lock0 until flag0 or flag1 or timeout",
+    "repeat until flag0 or not flag1", "wait cond0 lock0 until flag0 or flag1 or timeout", "if flag0 and not flag1 or flag1",
 ]
 ACQUISITIONS = [("read", "shared"), ("read", "shared"), ("write", "exclusive"), ("upgradable_read", "upgradable")]
 ANY_CALL = ["lock", "announce", *(word for word, _ in ACQUISITIONS)]
@@ -71,6 +71,10 @@ def random_plan(number):
         lines += [line for it in shared for line in maker.visit(it)]
         found = maker.party_lines(rng.randint(0, most // 2 if is_chain or shared else most), names)
         lines += by_index(rng, found) if has_row and (len(names) > 1 or rng.random() < 0.05) else found
+    if has_row and rng.random() < 0.5:
+        lines = with_pick(rng, lines)
+    if rng.random() < 1 / 3:
+        lines = with_functions(rng, lines)
     text = "\n".join(with_faults(rng, lines, locks, has_blocks)) + "\n" * rng.randint(0, 1)
     return spoilt(rng, text).encode() if rng.random() < 0.06 else text.encode()
 
@@ -111,9 +115,60 @@ def random_signals(rng, lines, kinds, heads):
     return Signals(flags, condvars, parties, unstarted)
 
 
-def other_flags(rng, signals):
-    """A second test of a loop with flags, or nothing."""
-    return [f"{rng.choice(['', '', 'not '])}{rng.choice(signals.flags)}"] if rng.random() < 0.5 else []
+def condition(rng, signals, look):
+    """A condition that begins with this look, and has others of these flags or none."""
+    for _ in range(rng.choice([0, 0, 0, 1, 1, 2])):
+        look += f" {rng.choice(['and', 'or'])} {rng.choice(['', '', 'not '])}{rng.choice(signals.flags)}"
+    return look
+
+
+def with_pick(rng, lines):
+    """The lines, where a party picks a lock of the row, and has it in the place of one, up to the end of the part where it picks."""
+    places = [at for at, line in enumerate(lines) if re.search(r" row\.[0-9]$", line)]
+    if not places:
+        return lines
+    at = rng.choice(places)
+    named = lines[at].split()[-1]
+    begin = at - rng.randint(0, min(2, at - max(it for it, line in enumerate(lines[:at]) if is_head(line)) - 1))
+    end = next((it for it in range(at, len(lines)) if is_head(lines[it])), len(lines))
+    other = rng.choice(["", "", f" except row.{rng.randint(1, 4)}"])
+    return [*lines[:begin], f"pick any of row{other}", *(re.sub(rf" {re.escape(named)}$", " any", it) for it in lines[begin:end]), *lines[end:]]
+
+
+def is_head(line):
+    return line.startswith(("party", "server"))
+
+
+def with_functions(rng, lines):
+    """The lines, of which some are in functions that are called in their place."""
+    first = next(it for it, line in enumerate(lines) if is_head(line))
+    functions = []
+    for number in range(rng.choice([1, 1, 2])):
+        begin, end = sorted(rng.randint(first + 1, len(lines)) for _ in range(2))
+        end = min(end, begin + rng.randint(0, 6))
+        part = lines[begin:end]
+        if not is_balanced(part):
+            continue
+        names = sorted({it.split()[-1] for it in part if len(it.split()) == 2 and not it.startswith(("start", "join", "repeat", "call"))})
+        names = rng.sample(names, rng.randint(0, min(2, len(names))))
+        parameters = [f"x{it}" for it in range(len(names))]
+        table = dict(zip(names, parameters))
+        body = [" ".join([it.split()[0], *(table.get(word, word) for word in it.split()[1:])]) for it in part]
+        body.insert(rng.randint(0, len(body)), "return") if rng.random() < 0.1 else None
+        functions += [" ".join(["def", f"f{number}", *parameters]), *body, "end"]
+        call = " ".join(["call", f"f{number}", *names])
+        lines = [*lines[:begin], call, *lines[end:]]
+        if rng.random() < 0.2:
+            lines.insert(rng.randint(first + 1, len(lines)), call)
+    at = rng.choice([first, first, first, rng.randint(0, len(lines))])
+    return [*lines[:at], *functions, *lines[at:]]
+
+
+def is_balanced(lines):
+    """Whether these lines of a plan are of one party, and each block of them begins and ends in them."""
+    depths = list(itertools.accumulate((line.split()[0] in BLOCKS) - (line == "end") for line in lines))
+    outer = [line for line, depth in zip(lines, depths) if line in ("else", "or") and depth <= 0]
+    return not any(map(is_head, lines)) and not outer and min(depths, default=0) >= 0 and (depths or [0])[-1] == 0
 
 
 def chain_lines(rng, signals, number):
@@ -122,7 +177,7 @@ def chain_lines(rng, signals, number):
     signals.unstarted.clear()
     if number + 1 == len(signals.parties):
         return ["lock lock0", *[f"set {it}" for it in flags], f"notify_{rng.choice(['one', 'all'])} {condvar}", "unlock lock0"]
-    until = f" until {' or '.join([*flags, *other_flags(rng, signals)])}" if flags else ""
+    until = f" until {condition(rng, signals, flags[0])}" if flags else ""
     until += rng.choice(["", "", " or timeout"])
     return ["lock lock0", f"start {signals.parties[number + 1]}", f"wait {condvar} lock0{until}", "unlock lock0"]
 
@@ -161,7 +216,10 @@ def by_index(rng, lines):
 def lock_line(rng, name, kind, limit):
     if kind == "mutex":
         return f"mutex {name}{rng.choice(['', '', ' fair'])}"
-    return f"{kind} {name} {limit}{rng.choice(['', ' bar', ' fair']) if kind == 'rwlock' else ''}"
+    if kind == "rwlock":
+        limit = f" {limit}" if rng.random() < 0.9 else ""
+        return f"rwlock {name}{limit}{rng.choice(['', ' bar', ' fair'])}"
+    return f"{kind} {name} {limit}"
 
 
 class Signals(NamedTuple):
@@ -270,7 +328,7 @@ class Maker(NamedTuple):
         if signals.condvars:
             condvar = rng.choice(signals.condvars)
             found += [f"notify_{rng.choice(['one', 'all'])} {condvar}"]
-            until = f" until {' or '.join([rng.choice(['', '', 'not ']) + flag, *other_flags(rng, signals)])}" if flag and rng.random() < 0.7 else ""
+            until = f" until {condition(rng, signals, rng.choice(['', '', 'not ']) + flag)}" if flag and rng.random() < 0.7 else ""
             until += rng.choice(["", "", " or timeout"])
             found += 2 * [f"wait {condvar} {lock}{until}" for lock, mode in held if self.kinds[lock] == "mutex" or rng.random() < 0.02]
         return [rng.choice(found)] if found else [self.join()]
@@ -294,8 +352,8 @@ class Maker(NamedTuple):
         return [f"try {word} {lock}", *self.part(after), f"{undone} {lock}", *self.other_part(held), "end"]
 
     def test(self, flag):
-        """The first line of a block that branches on the flag."""
-        return f"if {self.rng.choice(['', 'not '])}{flag}"
+        """The first line of a block that branches on the flag, and perhaps on others."""
+        return f"if {condition(self.rng, self.signals, self.rng.choice(['', 'not ']) + flag)}"
 
     def other_part(self, held):
         """The `else` of a party with these holds and the lines below it, or nothing."""
@@ -311,9 +369,10 @@ class Maker(NamedTuple):
     def loop(self, held):
         """A loop of a party with these holds, or a block that is made twice."""
         flags = self.signals.flags if self.signals else []
-        tests = [f"repeat until {' or '.join([self.rng.choice(['', 'not ']) + it, *other_flags(self.rng, self.signals)])}" for it in flags]
-        head = self.rng.choice(["repeat", "forever", "repeat 2", "repeat 2", *2 * tests])
-        ways_out = self.way_out(held, head == "forever") if head == "forever" or head != "repeat 2" and self.rng.random() < 0.6 else []
+        tests = [f"repeat until {condition(self.rng, self.signals, self.rng.choice(['', 'not ']) + it)}" for it in flags]
+        head = self.rng.choice(["repeat", "forever", "repeat 2", "repeat 2", "repeat 1", *2 * tests])
+        is_counted = head in ("repeat 1", "repeat 2")
+        ways_out = self.way_out(held, head == "forever") if head == "forever" or not is_counted and self.rng.random() < 0.6 else []
         return [head, *self.part(held), *ways_out, *(self.part(held) if self.rng.random() < 0.3 else []), "end"]
 
     def way_out(self, held, is_only):
@@ -327,7 +386,11 @@ class Maker(NamedTuple):
         return ["repeat 2", *found, "end"] if rng.random() < 0.2 else found
 
     def releases_of(self, held):
-        return [f"{RELEASES[self.kinds[lock]][mode]} {lock}" for lock, mode in reversed(held)]
+        return [f"{self.same(RELEASES[self.kinds[lock]][mode])} {lock}" for lock, mode in reversed(held)]
+
+    def same(self, word):
+        """The word of a release, or its other name."""
+        return "unlock_upgradable_read" if word == "unlock_upgradable" and self.rng.random() < 0.3 else word
 
     def releases(self, held):
         return [(RELEASES[self.kinds[lock]][mode], lock, mode, None) for lock, mode in held]

@@ -3,6 +3,8 @@ use crate::fault::{BadLine, TextFault};
 use crate::forms::Role;
 use crate::line_fault::{LineFault, NameKind};
 use crate::names::NameSet;
+use crate::origin::{LineAt, Origin};
+use crate::tree::Tree;
 use crate::words::Words;
 use indexmap::IndexSet;
 use std::alloc::{AllocError, Global};
@@ -38,8 +40,8 @@ impl BadLines {
     pub(crate) fn add(
         &mut self,
         alloc: Global,
-        words: &Words,
-        line: u64,
+        tree: &Tree,
+        line: LineAt,
         fields: &[usize],
         fault: LineFault,
     ) -> Result<(), AllocError> {
@@ -47,32 +49,30 @@ impl BadLines {
             self.is_full = true;
         }
         if let LineFault::Unknown(_, name) = fault {
-            if self.seems_declared(words, name) {
+            if self.seems_declared(&tree.names.words, name) {
                 return Ok(());
             }
         }
-        let word = word_of(words, fields, fault);
-        self.tell(alloc, words, line, word, fault)
+        let word = word_of(&tree.names.words, fields, fault);
+        self.tell(alloc, tree, line, word, fault)
     }
 
-    /// Adds a line with this number, of which this word is wrong.
+    /// Adds a line of which this word is wrong.
     pub(crate) fn tell(
         &mut self,
         alloc: Global,
-        words: &Words,
-        number: u64,
+        tree: &Tree,
+        line: LineAt,
         word: usize,
         fault: LineFault,
     ) -> Result<(), AllocError> {
-        if self.told.iter().any(|told| told.line == number) {
+        if self.told.iter().any(|told| told.line == line.number) {
             return Ok(());
         }
-        let why = fault.why(alloc, words)?;
-        self.told.push(BadLine {
-            line: number,
-            word,
-            why,
-        })?;
+        let origin = Origin::new(line, tree.calls.as_slice());
+        let why = fault.why_from(alloc, &tree.names.words, origin)?;
+        let line = line.number;
+        self.told.push(BadLine { line, word, why })?;
         self.is_full = self.is_full || self.told.len() >= MOST_TOLD;
         Ok(())
     }
@@ -140,7 +140,10 @@ pub(crate) fn word_of(words: &Words, fields: &[usize], fault: LineFault) -> usiz
         | LineFault::NotTried(word)
         | LineFault::Taken(_, word)
         | LineFault::TakenCopy(word)
+        | LineFault::Arguments(word, _)
+        | LineFault::NotAbove(word)
         | LineFault::StartedTwice(word) => after(fields, 1, word),
+        LineFault::NoChoice(word) => after(fields, 3, word),
         LineFault::NotUtf8 => fields
             .iter()
             .position(|field| has_mark(words.text(*field)))

@@ -2,6 +2,7 @@
 use crate::bad_lines::BadLines;
 use crate::fault::TextFault;
 use crate::line_fault::LineFault;
+use crate::origin::LineAt;
 use crate::tree::Tree;
 use std::alloc::{AllocError, Global};
 
@@ -21,8 +22,8 @@ pub(crate) fn check_begun(alloc: Global, tree: &Tree) -> Result<(), TextFault> {
     let mut bad = BadLines::new(alloc);
     for (mention, name) in tree.mentions.as_slice().iter().enumerate() {
         if !parties.contains(name) && !bad.is_full() {
-            let line = tree.mention_lines.get(mention).copied().unwrap_or(0);
-            bad.tell(alloc, &tree.names.words, line, 1, LineFault::UnknownParty)?;
+            let line = line_in(tree.mention_lines.as_slice(), mention);
+            bad.tell(alloc, tree, line, 1, LineFault::UnknownParty)?;
         }
     }
     bad.fault(alloc)?;
@@ -33,12 +34,16 @@ pub(crate) fn check_begun(alloc: Global, tree: &Tree) -> Result<(), TextFault> {
     for (party, name) in parties.as_slice().iter().enumerate() {
         if begin.get(party).copied() == Some(Begins::Never) {
             let start = tree.started.get_index_of(name).unwrap_or(0);
-            let line = tree.start_lines.get(start).copied().unwrap_or(0);
-            bad.tell(alloc, &tree.names.words, line, 1, LineFault::NeverBegins)?;
+            let line = line_in(tree.start_lines.as_slice(), start);
+            bad.tell(alloc, tree, line, 1, LineFault::NeverBegins)?;
             return bad.fault(alloc);
         }
     }
     Ok(())
+}
+
+fn line_in(lines: &[LineAt], number: usize) -> LineAt {
+    lines.get(number).copied().unwrap_or(LineAt::alone(0))
 }
 
 /// Returns for each party whether it begins: no line starts it, or a line of a party that begins does.

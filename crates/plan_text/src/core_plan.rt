@@ -4,17 +4,18 @@ use crate::begun::check_begun;
 use crate::fault::TextFault;
 use crate::forms::{FORMS, Form, Role};
 use crate::line::Line;
-use crate::line_fault::{LineFault, Refusal};
+use crate::line_fault::{LineFault, Refusal, write_callers};
 use crate::line_list::expand;
 use crate::misread::misread;
 use crate::names::Names;
+use crate::origin::{LineAt, Origin};
 use crate::programs::Programs;
 use crate::reading::read;
 use crate::scan::{Scanned, scan};
 use crate::tree::Tree;
 use crate::words::Words;
 use lock_plan::{CallFault, Plan, PlanFault, PlanLock};
-use std::alloc::Global;
+use std::alloc::{AllocError, Global};
 use std::mem::replace;
 
 /// A plan as it is searched.
@@ -53,6 +54,7 @@ fn read_scanned(alloc: Global, scanned: &mut Scanned) -> Result<Core, TextFault>
     let lines = expand(alloc, &mut scanned.text, scanned.lines.as_slice())?;
     let words = replace(&mut scanned.text.words, Words::new(alloc));
     let mut tree = Tree::new(alloc, Names::new(alloc, words));
+    tree.calls = replace(&mut scanned.text.calls, Vec::new(alloc));
     let fields = scanned.text.fields.as_slice();
     read_tree(alloc, &mut tree, fields, lines.as_slice(), scanned.number)
 }
@@ -86,7 +88,7 @@ fn add_lines(
     add_each(alloc, tree, &mut bad, fields, lines)?;
     if !bad.is_full() {
         if let Some(fault) = tree.end_fault(lines.is_empty()) {
-            bad.tell(alloc, &tree.names.words, end, 0, fault)?;
+            bad.tell(alloc, tree, LineAt::alone(end), 0, fault)?;
         }
     }
     bad.fault(alloc)
@@ -109,8 +111,8 @@ fn add_each(
             Ok(()) => {}
             Err(Refusal::OutOfMemory) => return Err(TextFault::OutOfMemory),
             Err(Refusal::Bad(fault)) => {
-                bad.add(alloc, &tree.names.words, line.number, words, fault)?;
-                recover(alloc, tree, bad, line.number, words, fault)?;
+                bad.add(alloc, tree, line.at, words, fault)?;
+                recover(alloc, tree, bad, *line, words, fault)?;
             }
         }
     }
@@ -122,7 +124,7 @@ fn recover(
     alloc: Global,
     tree: &mut Tree,
     bad: &mut BadLines,
-    line: u64,
+    line: Line,
     fields: &[usize],
     fault: LineFault,
 ) -> Result<(), TextFault> {
@@ -160,8 +162,11 @@ fn add_line(alloc: Global, tree: &mut Tree, line: Line, fields: &[usize]) -> Res
     }
     let word = fields.first().copied().unwrap_or(0);
     let words = &tree.names.words;
-    match (words.form(word), read(words, fields)) {
-        (Some(form), Some(said)) => tree.add(alloc, line.number, word, form, said),
+    match (
+        words.form(word),
+        read(words, &mut tree.looks, fields, line.written)?,
+    ) {
+        (Some(form), Some(said)) => tree.add(alloc, line.at, word, form, said),
         _ => Err(Refusal::Bad(misread(alloc, words, fields)?)),
     }
 }
@@ -211,7 +216,7 @@ impl Core {
     pub fn fault(&self, alloc: Global, fault: PlanFault) -> TextFault {
         match fault {
             PlanFault::Call(row, place, why) => {
-                call_fault(alloc, self.programs.line(row, place), why)
+                call_fault(alloc, self.programs.origin(row, place), why)
             }
             PlanFault::TooLarge => TextFault::TooLarge,
             PlanFault::OutOfMemory => TextFault::OutOfMemory,
@@ -220,12 +225,15 @@ impl Core {
 }
 
 /// Makes the fault of a line with a call that can never be made.
-fn call_fault(alloc: Global, line: u64, why: CallFault) -> TextFault {
-    match format!(in alloc; "{why}") {
-        Ok(why) => match fault_of(alloc, line, 0, why) {
-            Ok(fault) => fault,
-            Err(_) => TextFault::OutOfMemory,
-        },
+fn call_fault(alloc: Global, origin: Origin, why: CallFault) -> TextFault {
+    match call_fault_of(alloc, origin, why) {
+        Ok(fault) => fault,
         Err(_) => TextFault::OutOfMemory,
     }
+}
+
+fn call_fault_of(alloc: Global, origin: Origin, why: CallFault) -> Result<TextFault, AllocError> {
+    let mut text = format!(in alloc; "{why}")?;
+    write_callers(&mut text, origin)?;
+    fault_of(alloc, origin.line(), 0, text)
 }

@@ -5,9 +5,10 @@ use crate::core_plan::Core;
 use crate::core_text::{has_two_ways, ways};
 use crate::fault::TextFault;
 use crate::forms::Role;
-use crate::line::Line;
+use crate::line::{Line, Written};
 use crate::line_fault::{LineFault, Refusal};
 use crate::names::Names;
+use crate::origin::LineAt;
 use crate::programs::Programs;
 use crate::reading::read;
 use crate::scan::{Scanned, scan};
@@ -24,7 +25,7 @@ struct Below {
     /// How many parties have them, or `None` above the first party.
     parties: Option<usize>,
     places: Vec<ProgramPlace>,
-    lines: Vec<u64>,
+    lines: Vec<LineAt>,
     /// The last place to which a way leads, and the number of that line.
     farthest: (usize, u64),
 }
@@ -69,7 +70,7 @@ fn add_names(
             Err(Refusal::Bad(why)) => {
                 let words = &tree.names.words;
                 let word = word_of(words, line.fields(fields), why);
-                return Err(fault(alloc, words, (line.number, word, why)));
+                return Err(fault(alloc, words, (line.at.number, word, why)));
             }
         }
     }
@@ -88,10 +89,12 @@ fn add_name(alloc: Global, tree: &mut Tree, line: Line, fields: &[usize]) -> Res
         return Ok(());
     };
     match form.2 {
-        Role::Lock(_) | Role::Flag | Role::Condvar => match read(&tree.names.words, fields) {
-            Some(said) => tree.add(alloc, line.number, *word, form, said),
-            None => Err(Refusal::Bad(LineFault::Form(form))),
-        },
+        Role::Lock(_) | Role::Flag | Role::Condvar => {
+            match read(&tree.names.words, &mut tree.looks, fields, Written::No)? {
+                Some(said) => tree.add(alloc, line.at, *word, form, said),
+                None => Err(Refusal::Bad(LineFault::Form(form))),
+            }
+        }
         Role::Party(_) if names.is_empty() => Err(Refusal::Bad(LineFault::Form(form))),
         Role::Party(is_server) => {
             for name in names {
@@ -171,13 +174,14 @@ impl Below {
                 self.parties = Some(rest.len());
                 Ok(ended)
             }
-            _ => self.add_place(names, line.number, fields),
+            _ => self.add_place(names, programs, line.at.number, fields),
         }
     }
 
     fn add_place(
         &mut self,
         names: &Names,
+        programs: &mut Programs,
         number: u64,
         fields: &[usize],
     ) -> Result<Result<(), Bad>, AllocError> {
@@ -186,11 +190,12 @@ impl Below {
             return Ok(Err((number, 0, LineFault::NoParty(word))));
         }
         let next = self.places.len().saturating_add(1) as u64;
-        match read_place(names, next, number, fields) {
-            Ok((place, line)) => {
+        match read_place(names, next, fields) {
+            Ok((place, written)) => {
                 self.note(number, place.next);
                 self.note(number, place.other);
                 self.places.push(place)?;
+                let line = line_at(&names.words, programs, number, written)?;
                 self.lines.push(line)?;
                 Ok(Ok(()))
             }
@@ -232,13 +237,35 @@ impl Below {
     }
 }
 
-/// Reads the line of a place with this number, and returns the number of the plan's line that it names, or its own.
-fn read_place(
+/// Makes the line of a place in the line of a core with this number: the one that it names, or its own.
+fn line_at(
+    words: &Words,
+    programs: &mut Programs,
+    own: u64,
+    written: Option<(u64, &[usize])>,
+) -> Result<LineAt, AllocError> {
+    let Some((number, callers)) = written else {
+        return Ok(LineAt::alone(own));
+    };
+    let mut call = 0usize;
+    for caller in callers.iter().rev() {
+        if let Some(number) = unsigned(words.text(*caller)) {
+            programs.calls.push(LineAt { number, call })?;
+            call = programs.calls.len();
+        }
+    }
+    Ok(LineAt { number, call })
+}
+
+/// A place, and what its line says of a line of the plan: its number, and the words after that.
+type ReadPlace<'a> = (ProgramPlace, Option<(u64, &'a [usize])>);
+
+/// Reads the line of a place with this number.
+fn read_place<'a>(
     names: &Names,
     next: u64,
-    own: u64,
-    fields: &[usize],
-) -> Result<(ProgramPlace, u64), LineFault> {
+    fields: &'a [usize],
+) -> Result<ReadPlace<'a>, LineFault> {
     let words = &names.words;
     let arrow = arrow_of(words, fields);
     if arrow < 1 || arrow >= fields.len() {
@@ -261,7 +288,7 @@ fn read_place(
         other: second.unwrap_or(first),
     };
     let (next, other) = ways(names, place);
-    Ok((ProgramPlace { act, next, other }, line.unwrap_or(own)))
+    Ok((ProgramPlace { act, next, other }, line))
 }
 
 /// Returns where the arrow is among words, or their number.
@@ -276,11 +303,11 @@ fn arrow_of(words: &Words, fields: &[usize]) -> usize {
     before
 }
 
-/// What comes after an act: one way or two, and perhaps the number of a line.
-type Ways = (usize, Option<usize>, Option<u64>);
+/// What comes after an act: one way or two, and perhaps the number of a line and the words after it.
+type Ways<'a> = (usize, Option<usize>, Option<(u64, &'a [usize])>);
 
 /// Reads what comes after an act, from the arrow on.
-fn read_ways(words: &Words, fields: &[usize]) -> Option<Ways> {
+fn read_ways<'a>(words: &Words, fields: &'a [usize]) -> Option<Ways<'a>> {
     let (first, second, rest) = match fields {
         [_, first, bar, second, rest @ ..] if words.is(*bar, "|") => {
             (*first, Some(way(words, *second)?), rest)
@@ -290,10 +317,27 @@ fn read_ways(words: &Words, fields: &[usize]) -> Option<Ways> {
     };
     let line = match rest {
         [] => None,
-        [word, number] if words.is(*word, "line") => Some(unsigned(words.text(*number))?),
+        [word, number, callers @ ..] if words.is(*word, "line") && are_callers(words, callers) => {
+            Some((unsigned(words.text(*number))?, callers))
+        }
         _ => return None,
     };
     Some((way(words, first)?, second, line))
+}
+
+/// Returns whether words are `from` and a number, any number of times.
+fn are_callers(words: &Words, fields: &[usize]) -> bool {
+    for (at, field) in fields.iter().enumerate() {
+        let is_right = if at % 2 == 0 {
+            words.is(*field, "from")
+        } else {
+            unsigned(words.text(*field)).is_some()
+        };
+        if !is_right {
+            return false;
+        }
+    }
+    fields.len() % 2 == 0
 }
 
 /// Reads a way: the number of a place, or `end`.

@@ -1,6 +1,7 @@
 //! The text of a core: what is searched, a line for each place.
 use crate::core_plan::Core;
 use crate::names::Names;
+use crate::origin::Origin;
 use itoa::Buffer;
 use lock_modes::{Kind, LockStep, Mode, ModeStep};
 use lock_plan::{Act, Block, PlanCall, PlanLock, ProgramPlace, Signal};
@@ -63,8 +64,8 @@ impl Core {
         text.push('\n')?;
         let places = self.programs.places(party);
         for (number, place) in places.iter().enumerate() {
-            let line = self.programs.line(party, number);
-            write_place(text, &self.names, number, *place, places.len(), line)?;
+            let origin = self.programs.origin(party, number);
+            write_place(text, &self.names, number, *place, places.len(), origin)?;
         }
         Ok(())
     }
@@ -90,7 +91,7 @@ fn write_place(
     number: usize,
     place: ProgramPlace,
     places: usize,
-    line: u64,
+    origin: Origin,
 ) -> Result<(), AllocError> {
     let start = text.len();
     let mut digits = Buffer::new();
@@ -107,7 +108,7 @@ fn write_place(
         write_way(text, second, places)?;
     }
     pad(text, start, WAYS_WIDTH)?;
-    writeln!(text, " line {line}")
+    writeln!(text, " line {origin}")
 }
 
 /// Returns the ways of a place, of a look the one for a true flag first.

@@ -17,7 +17,11 @@ pub(crate) enum Role {
     Condvar,
     /// Begins parties, and whether they are servers.
     Party(bool),
-    /// A call, and whether its word is one for reader-writer locks.
+    /// Begins a function.
+    Define,
+    /// Calls a function.
+    Invoke,
+    /// A call of a lock, and whether its word is one for reader-writer locks.
     Call(bool, LockStep),
     Set,
     Clear,
@@ -34,17 +38,18 @@ pub(crate) enum Role {
     Either,
     Or,
     Try,
+    Pick,
     If,
     Else,
     End,
 }
 
 /// All words that lines begin with. A word's number in [`Words`](crate::words::Words) is its place here.
-pub(crate) static FORMS: [Form; 39] = [
+pub(crate) static FORMS: [Form; 43] = [
     Form("mutex", "NAME [fair]", Role::Lock(Kind::Mutex)),
     Form(
         "rwlock",
-        "NAME READERS [bar | fair]",
+        "NAME [READERS] [bar | fair]",
         Role::Lock(Kind::RwLock),
     ),
     Form("reentrant", "NAME LEVELS", Role::Lock(Kind::Reentrant)),
@@ -93,6 +98,11 @@ pub(crate) static FORMS: [Form; 39] = [
         Role::Call(true, LockStep::Modes(ModeStep::Release(Mode::Upgradable))),
     ),
     Form(
+        "unlock_upgradable_read",
+        "LOCK",
+        Role::Call(true, LockStep::Modes(ModeStep::Release(Mode::Upgradable))),
+    ),
+    Form(
         "upgrade",
         "LOCK",
         Role::Call(
@@ -131,25 +141,24 @@ pub(crate) static FORMS: [Form; 39] = [
     Form("assert", "[not] FLAG", Role::Assert),
     Form(
         "wait",
-        "CONDVAR MUTEX [until [not] FLAG [or [not] FLAG]] [or timeout]",
+        "CONDVAR MUTEX [until CONDITION] [or timeout]",
         Role::Wait,
     ),
     Form("notify_one", "CONDVAR", Role::NotifyOne),
     Form("notify_all", "CONDVAR", Role::NotifyAll),
     Form("start", "PARTY [*]", Role::Start),
     Form("join", "PARTY [*]", Role::Join),
-    Form(
-        "repeat",
-        "[N | until [not] FLAG [or [not] FLAG]]",
-        Role::Repeat,
-    ),
+    Form("repeat", "[N | until CONDITION]", Role::Repeat),
     Form("forever", "", Role::Forever),
     Form("leave", "", Role::Leave),
     Form("return", "", Role::Return),
     Form("either", "", Role::Either),
     Form("or", "", Role::Or),
     Form("try", "CALL LOCK", Role::Try),
-    Form("if", "[not] FLAG", Role::If),
+    Form("if", "CONDITION", Role::If),
     Form("else", "", Role::Else),
     Form("end", "", Role::End),
+    Form("def", "NAME [PARAMETER..]", Role::Define),
+    Form("call", "NAME [ARGUMENT..]", Role::Invoke),
+    Form("pick", "NAME of ROW [except LOCK]", Role::Pick),
 ];

@@ -28,7 +28,7 @@ pub(crate) fn indexed(
     Ok(made.lines)
 }
 
-fn is_head(text: &Text, line: Line) -> bool {
+pub(crate) fn is_head(text: &Text, line: Line) -> bool {
     match text.fields(line) {
         [word, ..] => begins_party(text, *word),
         [] => false,
@@ -73,7 +73,7 @@ fn push_each(
         let copied = text.words.copy(alloc, name, copy.saturating_add(1))?;
         text.push(word)?;
         text.push(copied)?;
-        made.push(text.line(head.number, first, head.is_utf8))?;
+        made.push(text.line(head.at, first, head.is_utf8))?;
         for line in below {
             let line = line_of(alloc, text, *line, copy, count)?;
             made.push(line)?;
@@ -99,7 +99,11 @@ fn line_of(
         let word = word_of(alloc, text, word, copy, count)?;
         text.push(word)?;
     }
-    Ok(text.line(line.number, first, line.is_utf8))
+    let made = text.line(line.at, first, line.is_utf8);
+    Ok(Line {
+        written: line.written,
+        ..made
+    })
 }
 
 /// Makes a word in a line of one of the parties.

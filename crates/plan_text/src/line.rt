@@ -1,17 +1,30 @@
 //! Lines of words.
+use crate::forms::Role;
+use crate::origin::LineAt;
+use crate::stands::Stands;
 use crate::words::Words;
 use std::alloc::{AllocError, Global};
 
 /// A line of a text, with the place of its words in [`Text::fields`].
 #[derive(Clone, Copy)]
 pub(crate) struct Line {
-    /// The number of the line in the text, from 1.
-    pub(crate) number: u64,
-    first: usize,
-    end: usize,
+    pub(crate) at: LineAt,
+    pub(crate) first: usize,
+    pub(crate) end: usize,
     /// Its length, with one byte after each word.
     pub(crate) bytes: usize,
     pub(crate) is_utf8: bool,
+    pub(crate) written: Written,
+}
+
+/// Whether a `call` or a `pick` is written out.
+#[derive(Clone, Copy, PartialEq, Eq)]
+pub(crate) enum Written {
+    No,
+    /// What the line says is in the lines below it.
+    Inline,
+    /// The lines below it, up to an `end`, are those that it stands for.
+    Block,
 }
 
 impl Line {
@@ -30,6 +43,8 @@ impl Line {
 pub(crate) struct Text {
     pub(crate) words: Words,
     pub(crate) fields: Vec<usize>,
+    /// The lines of the calls that are written out, each of which may be in another one before it.
+    pub(crate) calls: Vec<LineAt>,
 }
 
 impl Text {
@@ -38,12 +53,22 @@ impl Text {
         Text {
             words: Words::new(alloc),
             fields: Vec::new(alloc),
+            calls: Vec::new(alloc),
         }
     }
 
     /// Returns the numbers of a line's words.
     pub(crate) fn fields(&self, line: Line) -> &[usize] {
         line.fields(self.fields.as_slice())
+    }
+
+    /// Returns whether a line begins with a word of this role.
+    pub(crate) fn has_role(&self, line: Line, role: Role) -> bool {
+        let form = self
+            .fields(line)
+            .first()
+            .and_then(|word| self.words.form(*word));
+        form.is_some_and(|form| form.2 == role)
     }
 
     /// Returns where the words of the next line begin.
@@ -58,13 +83,14 @@ impl Text {
     }
 
     /// Makes the line of the words from this place on.
-    pub(crate) fn line(&self, number: u64, first: usize, is_utf8: bool) -> Line {
+    pub(crate) fn line(&self, at: LineAt, first: usize, is_utf8: bool) -> Line {
         let mut line = Line {
-            number,
+            at,
             first,
             end: self.fields.len(),
             bytes: 0,
             is_utf8,
+            written: Written::No,
         };
         for word in self.fields(line) {
             line.bytes = line
@@ -83,6 +109,42 @@ impl Text {
             let word = self.fields.get(at).copied().unwrap_or(0);
             self.push(word)?;
         }
-        Ok(self.line(line.number, begin, line.is_utf8))
+        Ok(self.line(line.at, begin, line.is_utf8))
+    }
+
+    /// Makes a line of one word in the place of another line.
+    pub(crate) fn alone(
+        &mut self,
+        alloc: Global,
+        line: Line,
+        word: &str,
+    ) -> Result<Line, AllocError> {
+        let begin = self.next();
+        let word = self.words.number(alloc, word)?;
+        self.push(word)?;
+        Ok(self.line(line.at, begin, true))
+    }
+
+    /// Makes a line with the words for which those after its first one stand.
+    pub(crate) fn replaced(&mut self, stands: &Stands, line: Line) -> Result<Line, AllocError> {
+        let fields = self.fields(line);
+        if !fields.iter().any(|word| stands.word(*word).is_some()) {
+            return Ok(line);
+        }
+        let begin = self.next();
+        for at in line.first..line.end {
+            let word = self.fields.get(at).copied().unwrap_or(0);
+            let other = if at > line.first {
+                stands.word(word)
+            } else {
+                None
+            };
+            self.push(other.unwrap_or(word))?;
+        }
+        let made = self.line(line.at, begin, line.is_utf8);
+        Ok(Line {
+            written: line.written,
+            ..made
+        })
     }
 }

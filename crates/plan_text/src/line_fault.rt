@@ -1,5 +1,6 @@
 //! Why a line is bad.
 use crate::forms::Form;
+use crate::origin::Origin;
 use crate::words::Words;
 use std::alloc::{AllocError, Global};
 use std::fmt;
@@ -11,6 +12,7 @@ pub(crate) enum NameKind {
     Flag,
     Condvar,
     Party,
+    Function,
 }
 
 /// Why a line is bad. Words are told by their numbers.
@@ -41,6 +43,12 @@ pub(crate) enum LineFault {
     Unknown(NameKind, usize),
     /// Something of this kind has the name.
     Taken(NameKind, usize),
+    /// A call of this function has another number of arguments than the function has parameters.
+    Arguments(usize, usize),
+    /// A function calls this one, which is not above it.
+    NotAbove(usize),
+    /// No lock is in the row, or only the one that is left out.
+    NoChoice(usize),
     /// A party has the name of a copy.
     TakenCopy(usize),
     /// A line with this word is in a block. The block begins with the second word, in the line of this number.
@@ -85,6 +93,31 @@ impl LineFault {
     pub(crate) fn why(self, alloc: Global, words: &Words) -> Result<String, AllocError> {
         format!(in alloc; "{}", Why { fault: self, words })
     }
+
+    /// Makes the reason's text, with the calls around the line.
+    pub(crate) fn why_from(
+        self,
+        alloc: Global,
+        words: &Words,
+        origin: Origin,
+    ) -> Result<String, AllocError> {
+        let mut text = self.why(alloc, words)?;
+        write_callers(&mut text, origin)?;
+        Ok(text)
+    }
+}
+
+/// Appends the calls around a line to the reason why it is bad.
+pub(crate) fn write_callers(text: &mut String, origin: Origin) -> Result<(), AllocError> {
+    let mut here = origin;
+    for _caller in 0..origin.most_callers() {
+        let Some(caller) = here.caller() else {
+            break;
+        };
+        write!(text, ", from line {}", caller.line())?;
+        here = caller;
+    }
+    Ok(())
 }
 
 /// A reason and the words that it names. It shows as the text that the program prints.
@@ -101,6 +134,7 @@ impl fmt::Display for NameKind {
             NameKind::Flag => "flag",
             NameKind::Condvar => "condvar",
             NameKind::Party => "party",
+            NameKind::Function => "function",
         })
     }
 }
@@ -143,7 +177,7 @@ impl fmt::Display for Why<'_> {
                 write!(f, "no copies of '{name}'; write 'party {name} COUNT'")
             }
             LineFault::NoTurns(word) => {
-                write!(f, "'{}' is no number of turns from 2 to 64", text(word))
+                write!(f, "'{}' is no number of turns from 1 to 64", text(word))
             }
             LineFault::NotTried(word) => write!(
                 f,
@@ -154,6 +188,18 @@ impl fmt::Display for Why<'_> {
             LineFault::Taken(kind, name) => {
                 write!(f, "there is a {kind} '{}' already", text(name))
             }
+            LineFault::Arguments(name, 1) => {
+                write!(f, "function '{}' has one parameter", text(name))
+            }
+            LineFault::Arguments(name, count) => {
+                write!(f, "function '{}' has {count} parameters", text(name))
+            }
+            LineFault::NotAbove(name) => write!(
+                f,
+                "function '{}' is not above the function that calls it",
+                text(name)
+            ),
+            LineFault::NoChoice(row) => write!(f, "no lock to pick in row '{}'", text(row)),
             LineFault::TakenCopy(name) => write!(
                 f,
                 "there is a party with the name of a copy of '{}' already",
@@ -174,7 +220,9 @@ impl fmt::Display for Why<'_> {
             LineFault::LoopStarts => f.write_str("'start' in a loop"),
             LineFault::UnknownParty => f.write_str("unknown party"),
             LineFault::NeverBegins => f.write_str("never begins"),
-            LineFault::NoPlace => f.write_str("write 'NUMBER ACT -> PLACE [| PLACE] [line N]'"),
+            LineFault::NoPlace => f.write_str(
+                "write 'NUMBER ACT -> PLACE [| PLACE] [line N [from N]..]'",
+            ),
             LineFault::NoPlaceNumber(word, next) => {
                 write!(f, "'{}' in the place of {next}", text(word))
             }

@@ -1,7 +1,9 @@
 //! Lines that are short for several, written out.
 use crate::fault::TextFault;
+use crate::functions::written_out;
 use crate::indexed::indexed;
 use crate::line::{Line, Text};
+use crate::picks::picked;
 use crate::repeated::repeated;
 use crate::rows::rows;
 use crate::spread::spread;
@@ -35,14 +37,17 @@ impl LineList {
     }
 }
 
-/// Writes out the lines that are short for several: rows, lines for all copies, parties with an index, and repeated lines.
+/// Writes out the lines that are short for several: calls of functions, rows, lines for all copies, parties with an index, picks,
+/// and repeated lines.
 pub(crate) fn expand(
     alloc: Global,
     text: &mut Text,
     written: &[Line],
 ) -> Result<Vec<Line>, TextFault> {
-    let each = rows(alloc, text, written)?;
+    let called = written_out(alloc, text, written)?;
+    let each = rows(alloc, text, called.as_slice())?;
     let copies = spread(alloc, text, each.as_slice())?;
     let parties = indexed(alloc, text, copies.as_slice())?;
-    repeated(alloc, text, parties.as_slice())
+    let picked = picked(alloc, text, parties.as_slice())?;
+    repeated(alloc, text, picked.as_slice())
 }

@@ -1,8 +1,9 @@
 //! Why a line is not in the format.
 use crate::forms::{FORMS, Role};
 use crate::line_fault::LineFault;
-use crate::reading::{limit, parties, tried_call};
+use crate::reading::{begins_by_digit, limit, parties, tried_call};
 use crate::words::Words;
+use lock_modes::Kind;
 use script_text::unsigned;
 use std::alloc::{AllocError, Global};
 use strsim::levenshtein;
@@ -69,14 +70,16 @@ fn wrong_field(words: &Words, word: usize, role: Role, fields: &[usize]) -> Opti
             })
         }
         Role::Lock(kind) => {
-            let is_right = match last {
-                [] => false,
-                [number, ..] => limit(words.text(*number)).is_some(),
+            let is_right = match (kind, last) {
+                (Kind::Mutex, _) | (Kind::RwLock, []) => true,
+                (Kind::RwLock, [number, ..]) if !begins_by_digit(words.text(*number)) => true,
+                (Kind::Reentrant, []) => false,
+                (_, [number, ..]) => limit(words.text(*number)).is_some(),
             };
-            let has_limit = kind != lock_modes::Kind::Mutex;
-            (has_limit && !is_right).then_some(LineFault::NoLimit(word))
+            (!is_right).then_some(LineFault::NoLimit(word))
         }
         Role::Flag | Role::Condvar => None,
+        Role::Define if !words.is_name(name) => Some(LineFault::NoName(name)),
         Role::Party(_) if !words.is_name(name) => Some(LineFault::NoName(name)),
         Role::Party(_) => match last {
             [number] if parties(words.text(*number)).is_none() => Some(LineFault::NoCount(*number)),
@@ -90,7 +93,7 @@ fn wrong_field(words: &Words, word: usize, role: Role, fields: &[usize]) -> Opti
         },
         Role::Repeat if last.is_empty() && begins_by_digit(words.text(name)) => {
             Some(match unsigned(words.text(name)) {
-                Some(turns) if 2 <= turns && turns <= 64 => {
+                Some(turns) if 1 <= turns && turns <= 64 => {
                     LineFault::Unfit("'repeat' without 'end'")
                 }
                 _ => LineFault::NoTurns(name),
@@ -108,13 +111,6 @@ fn wrong_name(words: &Words, fields: &[usize]) -> Option<LineFault> {
     } else {
         LineFault::NoName(wrong)
     })
-}
-
-fn begins_by_digit(text: &str) -> bool {
-    match text.as_bytes() {
-        [first, ..] => first.is_ascii_digit(),
-        [] => false,
-    }
 }
 
 fn has_bracket(words: &Words, word: usize) -> bool {

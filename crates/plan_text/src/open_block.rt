@@ -23,6 +23,10 @@ pub(crate) enum OpenPart {
     Loop,
     Either,
     Or,
+    /// The lines of a function, below a call of it.
+    Call,
+    /// A function. The lines that it has are below the calls of it.
+    Function,
 }
 
 /// The blocks that are open, the innermost last.
@@ -46,6 +50,14 @@ impl OpenBlocks {
 
     pub(crate) fn has_loop(&self) -> bool {
         self.blocks.iter().any(|block| block.part == OpenPart::Loop)
+    }
+
+    /// Returns whether a function is open.
+    pub(crate) fn has_function(&self) -> bool {
+        match self.blocks.last() {
+            Some(block) => block.part == OpenPart::Function,
+            None => false,
+        }
     }
 
     /// Refuses a line that would open too many blocks.
@@ -99,12 +111,15 @@ impl OpenBlocks {
         }
     }
 
-    /// Refuses a `leave` outside a loop.
+    /// Refuses a `leave` outside a loop, or in a function outside a loop of it.
     pub(crate) fn leave(&self) -> Result<(), Refusal> {
-        if self.has_loop() {
-            Ok(())
-        } else {
-            Err(unfit("'leave' outside a loop"))
+        let around = self.blocks.iter().rev().find(|block| matches!(
+            block.part,
+            OpenPart::Loop | OpenPart::Call
+        ));
+        match around {
+            Some(block) if block.part == OpenPart::Loop => Ok(()),
+            _ => Err(unfit("'leave' outside a loop")),
         }
     }
 

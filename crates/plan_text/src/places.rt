@@ -1,16 +1,18 @@
 //! From the tree of a party to the places of its program.
+use crate::line::Written;
 use crate::names::Names;
-use crate::said::{Look, Looks, Said, WaitLine};
-use crate::tree::Node;
+use crate::origin::LineAt;
+use crate::said::{Condition, Join, Look, Said, WaitLine};
+use crate::tree::{Node, Tree};
 use lock_modes::{Kind, LockStep, Mode, ModeStep};
 use lock_plan::{Act, Block, PlanCall, PlanLock, ProgramPlace, Signal};
 use std::alloc::{AllocError, Global};
 
-/// The places of a program, and the number of the line of each.
+/// The places of a program, and the line of each.
 #[derive(Drop)]
 pub(crate) struct Places {
     pub(crate) places: Vec<ProgramPlace>,
-    pub(crate) lines: Vec<u64>,
+    pub(crate) lines: Vec<LineAt>,
 }
 
 /// Where a label is.
@@ -32,7 +34,16 @@ struct Open {
     past: usize,
     /// Where a party is at the end of the part: past the block, or at the begin of a loop.
     end: usize,
-    is_loop: bool,
+    kind: OpenKind,
+}
+
+/// What an open block is.
+#[derive(Clone, Copy, PartialEq, Eq)]
+enum OpenKind {
+    Branch,
+    Loop,
+    /// The lines of a function.
+    Call,
 }
 
 /// The elaboration of a party's tree. The places that it makes have labels in the place of the numbers of places.
@@ -40,26 +51,22 @@ struct Open {
 struct Elaboration<'a> {
     names: &'a Names,
     locks: &'a [PlanLock],
+    looks: &'a [(Look, Join)],
     made: Places,
     labels: Vec<Target>,
     /// The label of the next place.
     here: usize,
     open: Vec<Open>,
-    /// The number of the line.
-    line: u64,
+    line: LineAt,
 }
 
 /// Makes the places of these lines, which fit each other.
-pub(crate) fn places_of(
-    alloc: Global,
-    names: &Names,
-    locks: &[PlanLock],
-    nodes: &[Node],
-) -> Result<Places, AllocError> {
+pub(crate) fn places_of(alloc: Global, tree: &Tree, nodes: &[Node]) -> Result<Places, AllocError> {
     let last_ors = last_ors(alloc, nodes)?;
     let mut elaboration = Elaboration {
-        names,
-        locks,
+        names: &tree.names,
+        locks: tree.locks.as_slice(),
+        looks: tree.looks.as_slice(),
         made: Places {
             places: Vec::new(alloc),
             lines: Vec::new(alloc),
@@ -67,7 +74,7 @@ pub(crate) fn places_of(
         labels: Vec::new(alloc),
         here: 0,
         open: Vec::new(alloc),
-        line: 0,
+        line: LineAt::alone(0),
     };
     match elaboration.add_all(nodes, last_ors.as_slice()) {
         Ok(()) => Ok(elaboration.resolved()),
@@ -102,7 +109,14 @@ fn last_ors(alloc: Global, nodes: &[Node]) -> Result<Vec<bool>, AllocError> {
 fn begins(said: Said) -> bool {
     matches!(
         said,
-        Said::Try(..) | Said::If(_) | Said::Until(_) | Said::Repeat | Said::Forever | Said::Either
+        Said::Try(..)
+            | Said::If(_)
+            | Said::Until(_)
+            | Said::Repeat
+            | Said::Forever
+            | Said::Either
+            | Said::Pick(_, Written::Block)
+            | Said::Invoke(..)
     )
 }
 
@@ -120,14 +134,19 @@ impl Elaboration<'_> {
     /// Adds the places of a line.
     fn add(&mut self, said: Said, is_last_or: bool) -> Result<(), AllocError> {
         match said {
-            Said::Lock(..) | Said::Flag(..) | Said::Condvar(_) | Said::Party(..) => Ok(()),
+            Said::Lock(..)
+            | Said::Flag(..)
+            | Said::Condvar(_)
+            | Said::Party(..)
+            | Said::Define(..)
+            | Said::Pick(_, Written::No | Written::Inline) => Ok(()),
             Said::Call(is_rwlock, step, lock) => {
                 let call = self.call(is_rwlock, step, lock);
                 self.step(Act::Call(call))
             }
             Said::Try(is_rwlock, step, lock) => {
                 let call = self.call(is_rwlock, step, lock);
-                self.branch(Act::Try(call), true)
+                self.branch(Act::Try(call))
             }
             Said::Set(flag) => {
                 let signal = self.set(flag, true);
@@ -150,11 +169,14 @@ impl Elaboration<'_> {
             Said::Start(party) => self.step(Act::Signal(Signal::Start(self.party(party)))),
             Said::Join(party) => self.step(Act::Signal(Signal::Join(self.party(party)))),
             Said::Wait(wait) => self.wait(wait),
-            Said::If(look) => self.look(look),
-            Said::Until(looks) => self.begin_until(looks),
+            Said::If(condition) => self.begin_if(condition),
+            Said::Until(condition) => self.begin_until(condition),
             Said::Repeat => self.begin_repeat(),
             Said::Forever => self.begin_forever(),
-            Said::Either => self.branch(Act::Choose(Block::Either), true),
+            Said::Either | Said::Pick(_, Written::Block) => {
+                self.branch(Act::Choose(Block::Either))
+            }
+            Said::Invoke(..) => self.begin_call(),
             Said::Or => self.or(is_last_or),
             Said::Else => self.part(),
             Said::End => self.end(),
@@ -179,42 +201,89 @@ impl Elaboration<'_> {
         Ok(())
     }
 
-    /// Begins a block of two parts. The act's first way leads into the first part, or its second way.
-    fn branch(&mut self, act: Act, is_first: bool) -> Result<(), AllocError> {
+    /// Begins a block of two parts. The act's first way leads into the first part.
+    fn branch(&mut self, act: Act) -> Result<(), AllocError> {
         let inside = self.label()?;
         let other = self.label()?;
+        self.place(act, inside, other)?;
+        self.open_branch(other)
+    }
+
+    /// Opens a block of which the second part begins at a label.
+    fn open_branch(&mut self, other: usize) -> Result<(), AllocError> {
         let past = self.label()?;
-        self.two_ways(act, inside, other, is_first)?;
         self.open.push(Open {
             next_part: Some(other),
             past,
             end: past,
-            is_loop: false,
+            kind: OpenKind::Branch,
         })?;
         Ok(())
     }
 
-    /// Adds a place with a way inside, where it goes on, and a way past that, of which either may be the first.
-    fn two_ways(
-        &mut self,
-        act: Act,
-        inside: usize,
-        past: usize,
-        is_first: bool,
-    ) -> Result<(), AllocError> {
-        if is_first {
-            self.place(act, inside, past)?;
-        } else {
-            self.place(act, past, inside)?;
-        }
+    /// Begins a block of which the first part is for a true condition.
+    fn begin_if(&mut self, condition: Condition) -> Result<(), AllocError> {
+        let inside = self.label()?;
+        let other = self.label()?;
+        self.decide(condition, inside, other)?;
         self.here = inside;
+        self.open_branch(other)
+    }
+
+    /// Adds the looks of a condition, of which a true one leads to the first label and a false one to the second.
+    fn decide(&mut self, condition: Condition, yes: usize, no: usize) -> Result<(), AllocError> {
+        let looks = condition.looks(self.looks);
+        // Where the looks after the next `or` begin.
+        let mut other = self.other_looks(looks, no)?;
+        for (at, (look, join)) in looks.iter().enumerate() {
+            let next = match *join {
+                Join::And => self.label()?,
+                Join::Or | Join::Last => yes,
+            };
+            self.look(*look, next, other)?;
+            match *join {
+                Join::And => self.here = next,
+                Join::Or => {
+                    self.here = other;
+                    let rest = looks.get(at.saturating_add(1)..).unwrap_or(&[]);
+                    other = self.other_looks(rest, no)?;
+                }
+                Join::Last => {}
+            }
+        }
         Ok(())
     }
 
-    /// Begins a block of which the first part is for this value of a flag.
-    fn look(&mut self, look: Look) -> Result<(), AllocError> {
+    /// Returns where a party goes on after a false look: to the looks after the next `or`, if there is one.
+    fn other_looks(&mut self, looks: &[(Look, Join)], no: usize) -> Result<usize, AllocError> {
+        if looks.iter().any(|(_, join)| *join == Join::Or) {
+            self.label()
+        } else {
+            Ok(no)
+        }
+    }
+
+    /// Adds a look, which leads to the first label if the flag has the value.
+    fn look(&mut self, look: Look, yes: usize, no: usize) -> Result<(), AllocError> {
         let (row, ended) = self.ended(look);
-        self.branch(Act::Choose(Block::If(row)), ended)
+        let act = Act::Choose(Block::If(row));
+        if ended {
+            self.place(act, yes, no)
+        } else {
+            self.place(act, no, yes)
+        }
+    }
+
+    /// Begins the lines of a function.
+    fn begin_call(&mut self) -> Result<(), AllocError> {
+        let past = self.label()?;
+        self.open.push(Open {
+            next_part: None,
+            past,
+            end: past,
+            kind: OpenKind::Call,
+        })?;
+        Ok(())
     }
 
     /// Opens a loop that begins here, and returns where a party is after it.
@@ -224,7 +293,7 @@ impl Elaboration<'_> {
             next_part: None,
             past,
             end: self.here,
-            is_loop: true,
+            kind: OpenKind::Loop,
         })?;
         Ok(past)
     }
@@ -242,21 +311,13 @@ impl Elaboration<'_> {
         self.step(Act::Choose(Block::Repeat))
     }
 
-    /// Begins a loop that a party leaves by a look at one flag or two.
-    fn begin_until(&mut self, looks: Looks) -> Result<(), AllocError> {
+    /// Begins a loop that a party leaves where a condition is true.
+    fn begin_until(&mut self, condition: Condition) -> Result<(), AllocError> {
         let past = self.open_loop()?;
-        self.leave_by(looks.first, past)?;
-        match looks.second {
-            Some(look) => self.leave_by(look, past),
-            None => Ok(()),
-        }
-    }
-
-    /// Adds a look that leads past a loop where the flag has the value.
-    fn leave_by(&mut self, look: Look, past: usize) -> Result<(), AllocError> {
-        let (row, ended) = self.ended(look);
         let inside = self.label()?;
-        self.two_ways(Act::Choose(Block::If(row)), inside, past, !ended)
+        self.decide(condition, past, inside)?;
+        self.here = inside;
+        Ok(())
     }
 
     /// Adds the places of a wait: the release of the mutex and the sleep, and then the call that acquires the mutex again.
@@ -264,8 +325,8 @@ impl Elaboration<'_> {
         let condvar = self.condvar(wait.condvar);
         let unlock = self.mutex_call(ModeStep::Release(Mode::Exclusive), wait.mutex);
         let lock = self.mutex_call(ModeStep::Acquire(Mode::Exclusive), wait.mutex);
-        if let Some(looks) = wait.until {
-            self.begin_until(looks)?;
+        if let Some(condition) = wait.until {
+            self.begin_until(condition)?;
         }
         self.step(unlock)?;
         if !wait.is_timed {
@@ -275,7 +336,7 @@ impl Elaboration<'_> {
             self.step(Act::Choose(Block::TimedSleep(condvar)))?;
             self.step(lock)?;
         } else {
-            self.branch(Act::Choose(Block::TimedSleep(condvar)), true)?;
+            self.branch(Act::Choose(Block::TimedSleep(condvar)))?;
             self.step(lock)?;
             self.part()?;
             self.step(lock)?;
@@ -332,21 +393,25 @@ impl Elaboration<'_> {
 
     /// Leads past the innermost loop.
     fn leave(&mut self) -> Result<(), AllocError> {
+        self.leave_block(OpenKind::Loop)
+    }
+
+    /// Leads past the innermost call, or to the end of the program. A label that is nowhere is there.
+    fn leave_all(&mut self) -> Result<(), AllocError> {
+        self.leave_block(OpenKind::Call)
+    }
+
+    /// Leads past the innermost block of this kind, if there is one.
+    fn leave_block(&mut self, kind: OpenKind) -> Result<(), AllocError> {
         let past = self
             .open
             .iter()
             .rev()
-            .find(|block| block.is_loop)
+            .find(|block| block.kind == kind)
             .map(|block| block.past);
         if let Some(past) = past {
             self.bind(self.here, Target::With(past));
         }
-        self.here = self.label()?;
-        Ok(())
-    }
-
-    /// Leads to the end of the program. A label that is nowhere is there.
-    fn leave_all(&mut self) -> Result<(), AllocError> {
         self.here = self.label()?;
         Ok(())
     }

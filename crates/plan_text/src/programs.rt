@@ -1,5 +1,6 @@
 //! The programs of a plan's rows, and the lines of their places.
 use crate::alike::{Rows, alike_rows, is_copy, rows_of};
+use crate::origin::{LineAt, Origin};
 use crate::places::places_of;
 use crate::tree::{Group, Tree};
 use lock_plan::{Act, ProgramPlace, Signal};
@@ -9,8 +10,10 @@ use std::alloc::{AllocError, Global};
 #[derive(Drop)]
 pub struct Programs {
     programs: Vec<Vec<ProgramPlace>>,
-    /// The number of the line of each place of each program.
-    lines: Vec<Vec<u64>>,
+    /// The line of each place of each program.
+    lines: Vec<Vec<LineAt>>,
+    /// The lines of the calls that are written out.
+    pub(crate) calls: Vec<LineAt>,
     /// The number of each row's program.
     numbers: Vec<usize>,
 }
@@ -23,15 +26,16 @@ impl Programs {
         Programs {
             programs: Vec::new(alloc),
             lines: Vec::new(alloc),
+            calls: Vec::new(alloc),
             numbers: Vec::new(alloc),
         }
     }
 
     /// Elaborates a tree into the programs of all rows.
     pub(crate) fn add_all(&mut self, alloc: Global, tree: &Tree) -> Result<(), AllocError> {
+        self.calls.extend_from_slice(tree.calls.as_slice())?;
         for group in &tree.groups {
-            let nodes = group.nodes.as_slice();
-            let places = places_of(alloc, &tree.names, tree.locks.as_slice(), nodes)?;
+            let places = places_of(alloc, tree, group.nodes.as_slice())?;
             let (places, lines) = (places.places.as_slice(), places.lines.as_slice());
             self.add_parties(alloc, tree, group, places, lines)?;
         }
@@ -51,7 +55,7 @@ impl Programs {
     pub(crate) fn add_shared(
         &mut self,
         places: Vec<ProgramPlace>,
-        lines: Vec<u64>,
+        lines: Vec<LineAt>,
         parties: usize,
     ) -> Result<(), AllocError> {
         let number = self.programs.len();
@@ -70,7 +74,7 @@ impl Programs {
         tree: &Tree,
         group: &Group,
         places: &[ProgramPlace],
-        lines: &[u64],
+        lines: &[LineAt],
     ) -> Result<(), AllocError> {
         let shared = self.programs.len();
         self.programs.push(Vec::from_slice(alloc, places)?)?;
@@ -91,11 +95,11 @@ impl Programs {
         &mut self,
         alloc: Global,
         places: &[ProgramPlace],
-        lines: &[u64],
+        lines: &[LineAt],
     ) -> Result<usize, AllocError> {
         let number = self.programs.len();
         self.programs.push(started(alloc, places)?)?;
-        let mut numbers = vec![in alloc; lines.first().copied().unwrap_or(0)]?;
+        let mut numbers = vec![in alloc; lines.first().copied().unwrap_or(LineAt::alone(0))]?;
         numbers.extend_from_slice(lines)?;
         self.lines.push(numbers)?;
         Ok(number)
@@ -115,13 +119,14 @@ impl Programs {
         }
     }
 
-    /// Returns the number of the line of a row's place, or 0 past the last.
-    pub fn line(&self, row: usize, place: usize) -> u64 {
+    /// Returns where a row's place comes from. Past the last place it is line 0.
+    pub fn origin(&self, row: usize, place: usize) -> Origin<'_> {
         let number = self.numbers.get(row).copied().unwrap_or(0);
-        match self.lines.get(number) {
-            Some(lines) => lines.get(place).copied().unwrap_or(0),
-            None => 0,
-        }
+        let line = match self.lines.get(number) {
+            Some(lines) => lines.get(place).copied(),
+            None => None,
+        };
+        Origin::new(line.unwrap_or(LineAt::alone(0)), self.calls.as_slice())
     }
 
     /// Returns whether a row is a copy of the row before it.

@@ -1,26 +1,49 @@
 //! Reading a line.
 use crate::forms::Role;
+use crate::line::Written;
 use crate::rows::count;
-use crate::said::{Look, Looks, Parties, Said, WaitLine};
+use crate::said::{Condition, Join, Look, Looks, Parties, Said, WaitLine};
 use crate::words::Words;
 use lock_modes::{Kind, LockStep, Mode, ModeStep};
 use lock_plan::PlanLock;
 use script_text::unsigned;
+use std::alloc::AllocError;
 
-/// Reads a line of these words, or returns `None` for one that is not in the format.
-pub(crate) fn read(words: &Words, fields: &[usize]) -> Option<Said> {
+/// The most parameters of a function.
+const MOST_PARAMETERS: usize = 64;
+
+/// Reads a line of these words, or returns `None` for one that is not in the format. Adds the looks of its condition to `looks`.
+pub(crate) fn read(
+    words: &Words,
+    looks: &mut Looks,
+    fields: &[usize],
+    written: Written,
+) -> Result<Option<Said>, AllocError> {
     let [word, rest @ ..] = fields else {
-        return None;
+        return Ok(None);
     };
-    let said = match words.form(*word)?.2 {
+    let Some(form) = words.form(*word) else {
+        return Ok(None);
+    };
+    match form.2 {
+        Role::Wait => wait(words, looks, rest),
+        Role::If => Ok(condition(words, looks, rest)?.map(Said::If)),
+        Role::Repeat => repeat(words, looks, rest),
+        role => Ok(plain(words, role, rest, written)),
+    }
+}
+
+/// Reads a line without a condition.
+fn plain(words: &Words, role: Role, rest: &[usize], written: Written) -> Option<Said> {
+    let said = match role {
         Role::Lock(kind) => return lock(words, kind, rest),
         Role::Flag => return flag(words, rest),
         Role::Party(is_server) => return party(words, is_server, rest),
-        Role::Wait => Said::Wait(wait(words, rest)?),
         Role::Assert => Said::Assert(look(words, rest)?),
-        Role::If => Said::If(look(words, rest)?),
         Role::Try => return tried(words, rest),
-        Role::Repeat => return repeat(words, rest),
+        Role::Define => return define(words, rest),
+        Role::Invoke => return invoke(words, rest, written),
+        Role::Pick => return pick(words, rest, written),
         Role::Condvar => Said::Condvar(name(words, rest)?),
         Role::Call(is_rwlock, step) => Said::Call(is_rwlock, step, name(words, rest)?),
         Role::Set => Said::Set(name(words, rest)?),
@@ -73,6 +96,10 @@ fn lock(words: &Words, kind: Kind, fields: &[usize]) -> Option<Said> {
     };
     let (limit, last) = match (kind, rest) {
         (Kind::Mutex, last) => (1, last),
+        (Kind::RwLock, []) => (u64::from(u32::MAX), rest),
+        (Kind::RwLock, [word, ..]) if !begins_by_digit(words.text(*word)) => {
+            (u64::from(u32::MAX), rest)
+        }
         (_, [number, last @ ..]) => (limit(words.text(*number))?, last),
         (_, []) => return None,
     };
@@ -94,6 +121,14 @@ fn lock(words: &Words, kind: Kind, fields: &[usize]) -> Option<Said> {
 /// Reads a limit of readers or levels.
 pub(crate) fn limit(field: &str) -> Option<u64> {
     unsigned(field).filter(|limit| 1 <= *limit && *limit <= u64::from(u32::MAX))
+}
+
+/// Returns whether a text begins by a digit.
+pub(crate) fn begins_by_digit(text: &str) -> bool {
+    match text.as_bytes() {
+        [first, ..] => first.is_ascii_digit(),
+        [] => false,
+    }
 }
 
 fn flag(words: &Words, fields: &[usize]) -> Option<Said> {
@@ -142,83 +177,154 @@ pub(crate) fn tried_call(words: &Words, word: usize) -> Option<(bool, LockStep)>
     }
 }
 
-fn repeat(words: &Words, fields: &[usize]) -> Option<Said> {
+fn repeat(words: &Words, looks: &mut Looks, fields: &[usize]) -> Result<Option<Said>, AllocError> {
     match fields {
-        [] => Some(Said::Repeat),
-        [word, rest @ ..] if words.is(*word, "until") => Some(Said::Until(looks(words, rest)?)),
-        _ => None,
+        [] => Ok(Some(Said::Repeat)),
+        [word, rest @ ..] if words.is(*word, "until") => {
+            Ok(condition(words, looks, rest)?.map(Said::Until))
+        }
+        _ => Ok(None),
     }
 }
 
-fn wait(words: &Words, fields: &[usize]) -> Option<WaitLine> {
-    let [condvar, mutex, rest @ ..] = fields else {
+/// Reads the first line of a function: its name, and names of parameters that differ.
+fn define(words: &Words, fields: &[usize]) -> Option<Said> {
+    let [name, parameters @ ..] = fields else {
         return None;
     };
-    let (until, is_timed) = wait_end(words, rest)?;
-    Some(WaitLine {
-        condvar: name_in(words, *condvar)?,
-        mutex: name_in(words, *mutex)?,
-        until,
-        is_timed,
-    })
-}
-
-/// Reads what comes after the mutex of a wait.
-fn wait_end(words: &Words, fields: &[usize]) -> Option<(Option<Looks>, bool)> {
-    if let [word, rest @ ..] = fields {
-        if words.is(*word, "until") {
-            if let Some(looks) = looks(words, rest) {
-                return Some((Some(looks), false));
-            }
+    if parameters.len() > MOST_PARAMETERS {
+        return None;
+    }
+    for (at, parameter) in parameters.iter().enumerate() {
+        if !words.is_name(*parameter) || parameters.iter().take(at).any(|it| it == parameter) {
+            return None;
         }
     }
-    match fields {
-        [] => Some((None, false)),
-        [rest @ .., or, last] if words.is(*or, "or") && words.is(*last, "timeout") => match rest {
-            [] => Some((None, true)),
-            [word, rest @ ..] if words.is(*word, "until") => {
-                Some((Some(looks(words, rest)?), true))
-            }
-            _ => None,
-        },
-        _ => None,
-    }
+    Some(Said::Define(name_in(words, *name)?, parameters.len()))
 }
 
-/// Reads one look or two.
-fn looks(words: &Words, fields: &[usize]) -> Option<Looks> {
-    if let Some(first) = look(words, fields) {
-        return Some(Looks {
-            first,
-            second: None,
-        });
+fn invoke(words: &Words, fields: &[usize], written: Written) -> Option<Said> {
+    let [name, arguments @ ..] = fields else {
+        return None;
+    };
+    if !arguments.iter().all(|argument| words.is_name(*argument)) {
+        return None;
     }
-    let (first, rest) = match fields {
-        [not, flag, or, rest @ ..] if words.is(*not, "not") && words.is(*or, "or") => {
-            let flag = flag_in(words, *flag)?;
-            (Look { value: false, flag }, rest)
-        }
-        [flag, or, rest @ ..] if words.is(*or, "or") => {
-            let flag = flag_in(words, *flag)?;
-            (Look { value: true, flag }, rest)
+    let name = name_in(words, *name)?;
+    Some(Said::Invoke(name, arguments.len(), written))
+}
+
+fn pick(words: &Words, fields: &[usize], written: Written) -> Option<Said> {
+    let (name, row) = match fields {
+        [name, of, row] if words.is(*of, "of") => (*name, *row),
+        [name, of, row, except, lock]
+            if words.is(*of, "of") && words.is(*except, "except") && words.is_name(*lock) => {
+            (*name, *row)
         }
         _ => return None,
     };
-    let second = look(words, rest)?;
-    flag_in(words, second.flag)?;
-    Some(Looks {
-        first,
-        second: Some(second),
-    })
+    name_in(words, name)?;
+    Some(Said::Pick(name_in(words, row)?, written))
 }
 
-/// Returns the flag, unless it has the name of a word around flags.
-fn flag_in(words: &Words, flag: usize) -> Option<usize> {
-    if words.is_flag_name(flag) {
-        Some(flag)
-    } else {
-        None
+fn wait(words: &Words, looks: &mut Looks, fields: &[usize]) -> Result<Option<Said>, AllocError> {
+    let [condvar, mutex, rest @ ..] = fields else {
+        return Ok(None);
+    };
+    if !words.is_name(*condvar) || !words.is_name(*mutex) {
+        return Ok(None);
     }
+    let Some((until, is_timed)) = wait_end(words, looks, rest)? else {
+        return Ok(None);
+    };
+    Ok(Some(Said::Wait(WaitLine {
+        condvar: *condvar,
+        mutex: *mutex,
+        until,
+        is_timed,
+    })))
+}
+
+/// What comes after the mutex of a wait.
+type WaitEnd = (Option<Condition>, bool);
+
+fn wait_end(
+    words: &Words,
+    looks: &mut Looks,
+    fields: &[usize],
+) -> Result<Option<WaitEnd>, AllocError> {
+    if let Some(until) = until(words, looks, fields)? {
+        return Ok(Some((Some(until), false)));
+    }
+    match fields {
+        [] => Ok(Some((None, false))),
+        [rest @ .., or, last] if words.is(*or, "or") && words.is(*last, "timeout") => {
+            if rest.is_empty() {
+                return Ok(Some((None, true)));
+            }
+            Ok(until(words, looks, rest)?.map(|until| (Some(until), true)))
+        }
+        _ => Ok(None),
+    }
+}
+
+/// Reads `until` and a condition.
+fn until(
+    words: &Words,
+    looks: &mut Looks,
+    fields: &[usize],
+) -> Result<Option<Condition>, AllocError> {
+    match fields {
+        [word, rest @ ..] if words.is(*word, "until") => condition(words, looks, rest),
+        _ => Ok(None),
+    }
+}
+
+/// Reads a condition: looks, with `and` or `or` between them.
+fn condition(
+    words: &Words,
+    looks: &mut Looks,
+    fields: &[usize],
+) -> Result<Option<Condition>, AllocError> {
+    let first = looks.len();
+    if let Some(look) = look(words, fields) {
+        looks.push((look, Join::Last))?;
+        let end = looks.len();
+        return Ok(Some(Condition { first, end }));
+    }
+    let mut rest = fields;
+    for _look in 0..fields.len() {
+        let Some((look, join, after)) = next_look(words, rest) else {
+            break;
+        };
+        looks.push((look, join))?;
+        if join == Join::Last {
+            let end = looks.len();
+            return Ok(Some(Condition { first, end }));
+        }
+        rest = after;
+    }
+    looks.truncate(first);
+    Ok(None)
+}
+
+/// Reads one of several looks, and returns what comes after it, and the fields behind that.
+fn next_look<'a>(words: &Words, fields: &'a [usize]) -> Option<(Look, Join, &'a [usize])> {
+    let (value, flag, rest) = match fields {
+        [not, flag, rest @ ..] if words.is(*not, "not") => (false, *flag, rest),
+        [flag, rest @ ..] => (true, *flag, rest),
+        [] => return None,
+    };
+    if !words.is_flag_name(flag) {
+        return None;
+    }
+    let (join, rest) = match rest {
+        [] => (Join::Last, rest),
+        [word, rest @ ..] if words.is(*word, "and") => (Join::And, rest),
+        [word, rest @ ..] if words.is(*word, "or") => (Join::Or, rest),
+        _ => return None,
+    };
+    Some((Look { value, flag }, join, rest))
 }
 
 /// Reads a flag, or `not` and a flag.

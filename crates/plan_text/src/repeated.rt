@@ -1,14 +1,14 @@
 //! Repeated lines: `repeat N` .. `end`.
 use crate::fault::TextFault;
 use crate::forms::Role;
-use crate::line::{Line, Text};
+use crate::line::{Line, Text, Written};
 use crate::rows::count;
 use script_text::SCRIPT_LIMIT;
 use std::alloc::{AllocError, Global};
 
 /// What a line is for the blocks of a text.
 #[derive(Clone, Copy)]
-enum Part {
+pub(crate) enum Part {
     /// It begins a block, of which the lines come so often.
     Begins(Option<u64>),
     Ends,
@@ -98,18 +98,16 @@ fn bytes_of(lines: &[Line]) -> usize {
 }
 
 /// Returns what a line is for the blocks of a text.
-fn part_of(text: &Text, line: Line) -> Part {
+pub(crate) fn part_of(text: &Text, line: Line) -> Part {
     let fields = text.fields(line);
     let Some(form) = fields.first().and_then(|word| text.words.form(*word)) else {
         return Part::Neither;
     };
     match (form.2, fields) {
-        (Role::Repeat, [_, turns]) => Part::Begins(count(text.words.text(*turns)).filter(
-            |turns| *turns > 1,
-        )),
-        (Role::Repeat | Role::Forever | Role::Either | Role::Try | Role::If, _) => Part::Begins(
-            None,
-        ),
+        (Role::Repeat, [_, turns]) => Part::Begins(count(text.words.text(*turns))),
+        (Role::Repeat | Role::Forever | Role::Either | Role::Try | Role::If | Role::Define, _) =>
+            Part::Begins(None),
+        (Role::Invoke | Role::Pick, _) if line.written == Written::Block => Part::Begins(None),
         (Role::End, [_]) => Part::Ends,
         _ => Part::Neither,
     }

@@ -1,4 +1,5 @@
 //! What lines say. Names are the numbers of words.
+use crate::line::Written;
 use lock_modes::LockStep;
 use lock_plan::PlanLock;
 
@@ -22,8 +23,14 @@ pub(crate) enum Said {
     Start(usize),
     Join(usize),
     Wait(WaitLine),
-    If(Look),
-    Until(Looks),
+    If(Condition),
+    Until(Condition),
+    /// Begins a function with so many parameters.
+    Define(usize, usize),
+    /// Calls a function with so many arguments.
+    Invoke(usize, usize, Written),
+    /// A lock that is chosen in a row of locks.
+    Pick(usize, Written),
     Repeat,
     Forever,
     Leave,
@@ -50,11 +57,34 @@ pub(crate) struct Look {
     pub(crate) flag: usize,
 }
 
-/// One look or two. The party makes the second where the first flag has another value.
+/// What is between a look of a condition and the next one.
+#[derive(Clone, Copy, PartialEq, Eq)]
+pub(crate) enum Join {
+    And,
+    Or,
+    /// There is no next one.
+    Last,
+}
+
+/// Looks, each with what comes after it.
+pub(crate) type Looks = Vec<(Look, Join)>;
+
+/// A condition: where its looks are among those of all conditions.
 #[derive(Clone, Copy)]
-pub(crate) struct Looks {
-    pub(crate) first: Look,
-    pub(crate) second: Option<Look>,
+pub(crate) struct Condition {
+    pub(crate) first: usize,
+    pub(crate) end: usize,
+}
+
+impl Condition {
+    /// Returns the looks of the condition among those of all conditions.
+    pub(crate) fn looks(self, all: &[(Look, Join)]) -> &[(Look, Join)] {
+        if self.first <= self.end && self.end <= all.len() {
+            &all[self.first..self.end]
+        } else {
+            &[]
+        }
+    }
 }
 
 /// A wait on a condition variable.
@@ -62,7 +92,7 @@ pub(crate) struct Looks {
 pub(crate) struct WaitLine {
     pub(crate) condvar: usize,
     pub(crate) mutex: usize,
-    /// The party waits again and again until a flag has its value.
-    pub(crate) until: Option<Looks>,
+    /// The party waits again and again until this is so.
+    pub(crate) until: Option<Condition>,
     pub(crate) is_timed: bool,
 }

@@ -1,5 +1,6 @@
 //! From bytes to lines of words.
 use crate::line::{Line, Text};
+use crate::origin::LineAt;
 use crate::spot::part;
 use std::alloc::{AllocError, Global};
 
@@ -93,7 +94,8 @@ impl Scanned {
     /// Adds the line that ends here, if it has words.
     fn end_line(&mut self) -> Result<(), AllocError> {
         if self.first < self.text.next() {
-            let line = self.text.line(self.number, self.first, self.is_utf8);
+            let at = LineAt::alone(self.number);
+            let line = self.text.line(at, self.first, self.is_utf8);
             self.lines.push(line)?;
         }
         self.number = self.number.saturating_add(1);

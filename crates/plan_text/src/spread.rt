@@ -86,5 +86,5 @@ fn without_star(text: &mut Text, line: Line) -> Result<Line, AllocError> {
     let first = text.next();
     text.push(word)?;
     text.push(name)?;
-    Ok(text.line(line.number, first, line.is_utf8))
+    Ok(text.line(line.at, first, line.is_utf8))
 }

@@ -1,17 +1,19 @@
 //! The tree of a text: what it declares, and the lines of its parties.
 use crate::forms::{Form, Role};
+use crate::line::{Line, Written};
 use crate::line_fault::{LineFault, NameKind, Refusal};
 use crate::names::{NameSet, Names};
 use crate::open_block::{OpenBlocks, OpenPart};
-use crate::said::{Looks, Parties, Said, WaitLine};
+use crate::origin::LineAt;
+use crate::said::{Condition, Looks, Parties, Said, WaitLine};
 use indexmap::IndexSet;
 use lock_plan::PlanLock;
 use std::alloc::{AllocError, Global};
 
-/// A line of a party: its number, and what it says.
+/// A line of a party, and what it says.
 #[derive(Clone, Copy)]
 pub(crate) struct Node {
-    pub(crate) line: u64,
+    pub(crate) line: LineAt,
     pub(crate) said: Said,
 }
 
@@ -30,15 +32,22 @@ pub(crate) struct Tree {
     pub(crate) names: Names,
     pub(crate) locks: Vec<PlanLock>,
     pub(crate) groups: Vec<Group>,
+    /// The looks of all conditions.
+    pub(crate) looks: Looks,
+    /// The lines of the calls that are written out.
+    pub(crate) calls: Vec<LineAt>,
+    /// The names of the functions, and how many parameters each has.
+    functions: NameSet,
+    parameters: Vec<usize>,
     /// Whether each party is a server.
     pub(crate) servers: Vec<bool>,
     /// The names after `start` and `join`, each once, and the first line with each of them.
     pub(crate) mentions: NameSet,
-    pub(crate) mention_lines: Vec<u64>,
+    pub(crate) mention_lines: Vec<LineAt>,
     /// The names after `start`, the party whose line starts each of them, and that line.
     pub(crate) started: NameSet,
     pub(crate) starters: Vec<usize>,
-    pub(crate) start_lines: Vec<u64>,
+    pub(crate) start_lines: Vec<LineAt>,
     open: OpenBlocks,
 }
 
@@ -49,6 +58,10 @@ impl Tree {
             names,
             locks: Vec::new(alloc),
             groups: Vec::new(alloc),
+            looks: Vec::new(alloc),
+            calls: Vec::new(alloc),
+            functions: IndexSet::new(alloc),
+            parameters: Vec::new(alloc),
             servers: Vec::new(alloc),
             mentions: IndexSet::new(alloc),
             mention_lines: Vec::new(alloc),
@@ -68,16 +81,23 @@ impl Tree {
         }
     }
 
-    /// Adds a line with this number, of which the first word has this number and form.
+    /// Adds a line, of which the first word has this number and form.
     pub(crate) fn add(
         &mut self,
         alloc: Global,
-        line: u64,
+        line: LineAt,
         word: usize,
         form: Form,
         said: Said,
     ) -> Result<(), Refusal> {
         match said {
+            Said::Define(name, parameters) => {
+                self.outside_blocks(word)?;
+                add_name(&mut self.functions, NameKind::Function, name)?;
+                add(&mut self.parameters, parameters)?;
+                self.open.begin(OpenPart::Function, form.0, line.number)
+            }
+            Said::End if self.open.has_function() => self.open.end(),
             Said::Lock(..) | Said::Flag(..) | Said::Condvar(_) => {
                 self.outside_blocks(word)?;
                 self.declare(said)
@@ -92,6 +112,7 @@ impl Tree {
                 };
                 let (first, count) = (group.first, group.count);
                 self.known_names(said)?;
+                self.written_out(said)?;
                 self.mention(line, first, count, said)?;
                 self.turn_blocks(line, form, said)?;
                 self.push(Node { line, said })?;
@@ -122,10 +143,11 @@ impl Tree {
     /// Turns to the blocks that are open after a bad line, by its form, if the line is bad for another reason than these blocks.
     pub(crate) fn turn_misread(
         &mut self,
-        line: u64,
+        line: Line,
         form: Form,
         fault: LineFault,
     ) -> Result<(), AllocError> {
+        let number = line.at.number;
         if matches!(
             fault,
             LineFault::Unfit(_) | LineFault::TooDeep | LineFault::NoParty(_)
@@ -133,9 +155,16 @@ impl Tree {
             return Ok(());
         }
         let turned = match form.2 {
-            Role::Try | Role::If => self.open.begin(OpenPart::First, form.0, line),
-            Role::Repeat | Role::Forever => self.open.begin(OpenPart::Loop, form.0, line),
-            Role::Either => self.open.begin(OpenPart::Either, form.0, line),
+            Role::Try | Role::If => self.open.begin(OpenPart::First, form.0, number),
+            Role::Repeat | Role::Forever => self.open.begin(OpenPart::Loop, form.0, number),
+            Role::Either => self.open.begin(OpenPart::Either, form.0, number),
+            Role::Define => self.open.begin(OpenPart::Function, form.0, number),
+            Role::Pick if line.written == Written::Block => {
+                self.open.begin(OpenPart::Either, form.0, number)
+            }
+            Role::Invoke if line.written == Written::Block => {
+                self.open.begin(OpenPart::Call, form.0, number)
+            }
             Role::Or => self.open.turn(OpenPart::Or),
             Role::Else => self.open.turn(OpenPart::Else),
             Role::End => self.open.end(),
@@ -249,16 +278,17 @@ impl Tree {
         match said {
             Said::Call(_, _, lock) | Said::Try(_, _, lock) => self.known(NameKind::Lock, lock),
             Said::Set(flag) | Said::Clear(flag) => self.known(NameKind::Flag, flag),
-            Said::If(look) | Said::Assert(look) => self.known(NameKind::Flag, look.flag),
+            Said::Assert(look) => self.known(NameKind::Flag, look.flag),
             Said::NotifyOne(condvar) | Said::NotifyAll(condvar) => {
                 self.known(NameKind::Condvar, condvar)
             }
-            Said::Until(looks) => self.known_flags(looks),
+            Said::If(condition) | Said::Until(condition) => self.known_flags(condition),
+            Said::Invoke(name, _, _) => self.known(NameKind::Function, name),
             Said::Wait(wait) => {
                 self.known(NameKind::Condvar, wait.condvar)?;
                 self.known(NameKind::Lock, wait.mutex)?;
                 match wait.until {
-                    Some(looks) => self.known_flags(looks),
+                    Some(condition) => self.known_flags(condition),
                     None => Ok(()),
                 }
             }
@@ -266,11 +296,27 @@ impl Tree {
         }
     }
 
-    fn known_flags(&self, looks: Looks) -> Result<(), Refusal> {
-        self.known(NameKind::Flag, looks.first.flag)?;
-        match looks.second {
-            Some(look) => self.known(NameKind::Flag, look.flag),
-            None => Ok(()),
+    fn known_flags(&self, condition: Condition) -> Result<(), Refusal> {
+        for (look, _) in condition.looks(self.looks.as_slice()) {
+            self.known(NameKind::Flag, look.flag)?;
+        }
+        Ok(())
+    }
+
+    /// Refuses a call of a known function and a pick that are not written out.
+    fn written_out(&self, said: Said) -> Result<(), Refusal> {
+        match said {
+            Said::Invoke(name, arguments, Written::No) => {
+                let number = self.functions.get_index_of(&name).unwrap_or(0);
+                let parameters = self.parameters.get(number).copied().unwrap_or(0);
+                Err(Refusal::Bad(if parameters == arguments {
+                    LineFault::NotAbove(name)
+                } else {
+                    LineFault::Arguments(name, parameters)
+                }))
+            }
+            Said::Pick(row, Written::No) => Err(Refusal::Bad(LineFault::NoChoice(row))),
+            _ => Ok(()),
         }
     }
 
@@ -280,6 +326,7 @@ impl Tree {
             NameKind::Flag => &self.names.flags,
             NameKind::Condvar => &self.names.condvars,
             NameKind::Party => &self.names.parties,
+            NameKind::Function => &self.functions,
         };
         if names.contains(&name) {
             Ok(())
@@ -291,7 +338,7 @@ impl Tree {
     /// Notes the name of a `start` or a `join`, in the lines of these parties.
     fn mention(
         &mut self,
-        line: u64,
+        line: LineAt,
         first: usize,
         count: usize,
         said: Said,
@@ -311,7 +358,13 @@ impl Tree {
     }
 
     /// Notes the name of a `start`.
-    fn start(&mut self, line: u64, first: usize, count: usize, name: usize) -> Result<(), Refusal> {
+    fn start(
+        &mut self,
+        line: LineAt,
+        first: usize,
+        count: usize,
+        name: usize,
+    ) -> Result<(), Refusal> {
         if self.started.contains(&name) {
             return Err(Refusal::Bad(LineFault::StartedTwice(name)));
         }
@@ -328,37 +381,27 @@ impl Tree {
     }
 
     /// Turns to the blocks that are open after a line of a party.
-    fn turn_blocks(&mut self, line: u64, form: Form, said: Said) -> Result<(), Refusal> {
-        match said {
-            Said::Try(..) | Said::If(_) => self.open.begin(OpenPart::First, form.0, line),
-            Said::Repeat | Said::Forever => self.open.begin(OpenPart::Loop, form.0, line),
-            Said::Until(looks) => {
-                self.open.have_room(depth(looks))?;
-                self.open.begin(OpenPart::Loop, form.0, line)
-            }
-            Said::Wait(wait) => self.open.have_room(wait_depth(wait)),
-            Said::Either => self.open.begin(OpenPart::Either, form.0, line),
-            Said::Or => self.open.turn(OpenPart::Or),
-            Said::Else => self.open.turn(OpenPart::Else),
-            Said::End => self.open.end(),
-            Said::Leave => self.open.leave(),
-            Said::Return => self.open.leave_all(),
-            _ => Ok(()),
-        }
+    fn turn_blocks(&mut self, line: LineAt, form: Form, said: Said) -> Result<(), Refusal> {
+        let begun = match said {
+            Said::Try(..) | Said::If(_) => OpenPart::First,
+            Said::Repeat | Said::Forever | Said::Until(_) => OpenPart::Loop,
+            Said::Either | Said::Pick(_, Written::Block) => OpenPart::Either,
+            Said::Invoke(..) => OpenPart::Call,
+            Said::Wait(wait) => return self.open.have_room(wait_depth(wait)),
+            Said::Or => return self.open.turn(OpenPart::Or),
+            Said::Else => return self.open.turn(OpenPart::Else),
+            Said::End => return self.open.end(),
+            Said::Leave => return self.open.leave(),
+            Said::Return => return self.open.leave_all(),
+            _ => return Ok(()),
+        };
+        self.open.begin(begun, form.0, line.number)
     }
-}
-
-/// Returns as how many blocks a loop with these looks counts where it begins.
-fn depth(looks: Looks) -> usize {
-    if looks.second.is_some() { 2 } else { 1 }
 }
 
 /// Returns as how many blocks a wait counts.
 fn wait_depth(wait: WaitLine) -> usize {
-    match wait.until {
-        None => usize::from(wait.is_timed),
-        Some(looks) => depth(looks).max(1 + usize::from(wait.is_timed)),
-    }
+    usize::from(wait.until.is_some()) + usize::from(wait.is_timed)
 }
 
 /// Adds a name, unless it is there.

@@ -93,9 +93,9 @@ impl Words {
         !name.is_empty() && name.as_bytes().iter().all(|byte| is_name_byte(*byte))
     }
 
-    /// Returns whether a word is a name that no word around the flags of a loop has.
+    /// Returns whether a word is a name that no word of a condition has.
     pub(crate) fn is_flag_name(&self, number: usize) -> bool {
-        self.is_name(number) && !matches!(self.text(number), "not" | "or" | "timeout")
+        self.is_name(number) && !matches!(self.text(number), "not" | "and" | "or" | "timeout")
     }
 }
 

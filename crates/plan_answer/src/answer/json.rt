@@ -6,7 +6,7 @@ use crate::answer::stand::place_at;
 use crate::answer::step::{lock_at, write_made};
 use crate::answer::stop::{holders, is_full, stop_word, write_awaited};
 use lock_plan::{Act, PlanCall, Stopped};
-use plan_text::Programs;
+use plan_text::{Origin, Programs};
 use std::alloc::{AllocError, Global};
 
 /// Makes the object of an answer: its word, and the states, or the steps, the stopped parties and those that go on.
@@ -95,6 +95,22 @@ fn write_step(
     text.push('}')
 }
 
+/// Appends the lines of the calls around a line, if there are any.
+fn write_callers(text: &mut String, origin: Origin) -> Result<(), AllocError> {
+    let mut here = origin;
+    let mut is_later = false;
+    for _caller in 0..origin.most_callers() {
+        let Some(caller) = here.caller() else {
+            break;
+        };
+        text.push_str(if is_later { "," } else { "\"from\":[" })?;
+        write!(text, "{}", caller.line())?;
+        is_later = true;
+        here = caller;
+    }
+    if is_later { text.push_str("],") } else { Ok(()) }
+}
+
 /// Appends the begin of an object: the line of a row at a node, and its party.
 fn write_party(
     text: &mut String,
@@ -103,8 +119,10 @@ fn write_party(
     node: u128,
     row: usize,
 ) -> Result<(), AllocError> {
-    let line = lines.line(row, place_at(source.plan, node, row));
-    write!(text, "{{\"line\":{line},\"party\":")?;
+    let origin = lines.origin(row, place_at(source.plan, node, row));
+    write!(text, "{{\"line\":{},", origin.line())?;
+    write_callers(text, origin)?;
+    text.push_str("\"party\":")?;
     write_text(text, source.names.party(row))
 }
 

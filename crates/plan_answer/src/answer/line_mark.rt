@@ -23,7 +23,7 @@ pub(crate) fn write_mark(
     match source.mark {
         LineMark::Nothing => Ok(()),
         LineMark::Line(lines) => {
-            let line = lines.line(row, place_at(source.plan, node, row));
+            let line = lines.origin(row, place_at(source.plan, node, row));
             write!(text, "{line}: ")
         }
     }

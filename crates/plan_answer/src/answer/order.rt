@@ -47,7 +47,7 @@ fn write_obstacle(
 ) -> Result<(), AllocError> {
     match obstacle {
         Obstacle::Waits(wait) => {
-            let line = lines.line(wait.party, wait.place);
+            let line = lines.origin(wait.party, wait.place);
             let party = names.party(wait.party);
             let (wanted, held) = (names.lock(wait.wanted), names.lock(wait.held));
             writeln!(
@@ -59,7 +59,7 @@ fn write_obstacle(
             text.push_str("more than 4096 waits: only an order of the locks is looked for\n")
         }
         Obstacle::Uncovered(party, place) if names.is_party(party) => {
-            let line = lines.line(party, place);
+            let line = lines.origin(party, place);
             writeln!(
                 text,
                 "line {line}: an order covers no upgrade, announcement or signal"
