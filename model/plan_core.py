@@ -4,18 +4,18 @@ docs/PLANS.md has the format.
 """
 import itertools
 
-from plan_text import ACQUIRED, CHANGED, RELEASED
+from plan_text import ACQUIRED, CHANGED, MOVES, RELEASED
 
-SECOND_WAYS = {"try", "repeat", "forever", "either", "pick", "or", "if", "timed sleep"}
+SECOND_WAYS = {"try", "repeat", "forever", "either", "pick", "or", "if", "timed sleep", *(f"try {it}" for it in MOVES)}
 
 
 def core_text(plan):
     """The text of the core of a plan without a fault."""
-    texts = [*map(lock_text, plan.locks.items()), *(f"flag {it}{' true' * value}\n" for it, value in plan.flags.items())]
+    texts = [*map(lock_text, plan.locks.items()), *map(counter_text, plan.counters.items())]
     texts += [f"condvar {it}\n" for it in plan.condvars]
     started = {it.name for it in plan.mentions if it.word == "start"}
     for (_, alone), run in itertools.groupby(plan.parties, lambda it: (it.first, it.name in started and it.name)):
-        texts.append(party_text([*run], bool(alone)))
+        texts.append(party_text(plan, [*run], bool(alone)))
     return "".join(texts)
 
 
@@ -26,13 +26,20 @@ def lock_text(item):
     return f"{' '.join(words)}\n"
 
 
-def party_text(copies, is_started):
+def counter_text(item):
+    """The line of a counter."""
+    name, (kind, most, first) = item
+    last = {"flag": " true" * first, "counter": f" {most} = {first}", "semaphore": f" {first} {most}", "channel": f" {most}"}
+    return f"{kind} {name}{last[kind]}\n"
+
+
+def party_text(plan, copies, is_started):
     """The lines of parties that share their places. One that is started idles at a place of its own before them."""
     party = copies[0]
     head = f"\n{'server' if party.is_server else 'party'} {' '.join(it.name for it in copies)}\n"
     first = party.program[0].line.number if party.program else 0
     before = [("idle", [2], first)] if is_started else []
-    rows = before + [(act_of(it.line), [way + 1 + is_started for way in ways_of(it)], it.line.number) for it in party.program]
+    rows = before + [(act_of(plan, it.line), [way + 1 + is_started for way in ways_of(it)], it.line.number) for it in party.program]
     return head + "".join(place_text(number, len(rows), *row) for number, row in enumerate(rows, 1))
 
 
@@ -48,15 +55,25 @@ def ways_of(place):
     return [place.next, other] if word in SECOND_WAYS else [place.next]
 
 
-def act_of(line):
+def look_text(plan, line, value):
+    """Whether a counter is to have reached a number."""
+    if plan.counters[line.name].kind == "flag":
+        return f"{'' if value else 'not '}{line.name}"
+    return f"{line.name} {'>=' if value else '<'} {line.number_asked}"
+
+
+def act_of(plan, line):
     """The act of a line of a party."""
+    *tried, word = line.word.split()
+    if word in MOVES:
+        return " ".join([*tried, "add" if MOVES[word][1] > 0 else "take", line.name])
     match line.word:
         case "call" | "wait":
             return call_text(line.call)
         case "try":
             return f"try {call_text(line.call)}"
         case "if":
-            return f"if {line.name}"
+            return f"if {look_text(plan, line, True)}"
         case "repeat" | "forever":
             return "repeat"
         case "either" | "pick" | "or":
@@ -64,7 +81,9 @@ def act_of(line):
         case "timed sleep":
             return f"sleep {line.name} or timeout"
         case "assert":
-            return f"assert {'' if line.value else 'not '}{line.name}"
+            return f"assert {look_text(plan, line, line.value)}"
+        case "set" if plan.counters[line.name].kind != "flag":
+            return f"set {line.name} {line.number_asked}"
     return f"{line.word} {line.name}"
 
 

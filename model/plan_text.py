@@ -22,6 +22,15 @@ CHANGED = {
     "downgrade_upgradable": ("upgradable", "shared"),
 }
 CALLS = {*ACQUIRED, *RELEASED, *CHANGED}
+# words that move a counter, each with the kind of counter and by how much
+MOVES = {
+    "add": ("counter", 1),
+    "take": ("counter", -1),
+    "release": ("semaphore", 1),
+    "acquire": ("semaphore", -1),
+    "send": ("channel", 1),
+    "receive": ("channel", -1),
+}
 # calls that join the line of a fair lock, and calls that may be tried
 ACQUISITIONS = {"lock", "read", "write", "upgradable_read"}
 TRIED = {*ACQUISITIONS, "upgrade"}
@@ -31,17 +40,19 @@ SAME_CALLS = {"unlock_upgradable_read": "unlock_upgradable"}
 BLOCK_WORDS = {"repeat", "forever", "either", "else", "or", "end", "leave", "return"}
 # words of a text with which a block begins, lines with which one begins, and those of them to which a party comes back at its end
 BLOCKS = {"repeat", "forever", "either", "try", "if"}
-BEGINS = {*BLOCKS, "until", "timed sleep", "pick", "enter"}
+BEGINS = {*BLOCKS, "until", "timed sleep", "pick", "enter", *(f"try {it}" for it in MOVES)}
 LOOPS = {"repeat", "until", "forever"}
 # what a line in the midst of a block makes of it, by the line with which the block began or went on; and what may come before its end
 TURNS = {("else", "try"): "else", ("else", "if"): "else", ("else", "timed sleep"): "else", ("or", "either"): "or", ("or", "or"): "or", ("or", "pick"): "or"}
-ENDS = {*LOOPS, "try", "if", "else", "or", "enter", "def"}
+TURNS |= {("else", f"try {it}"): "else" for it in MOVES}
+ENDS = {*LOOPS, "try", "if", "else", "or", "enter", "def", *(f"try {it}" for it in MOVES)}
 PARTS = {"else", "or", "end"}
 # words of a condition with several looks, which no flag of it may have for a name
 BETWEEN_LOOKS = {"not", "and", "or", "timeout"}
 SLEEPS = {"sleep", "timed sleep"}
 LOCK_LINES = {"mutex", "rwlock", "reentrant"}
-DECLARED = {*LOCK_LINES, "flag", "condvar"}
+COUNTER_LINES = {"flag", "counter", "semaphore", "channel"}
+DECLARED = {*LOCK_LINES, *COUNTER_LINES, "condvar"}
 WORD = re.compile(r"[^ \t\r]+")
 NAME = re.compile(r"[A-Za-z0-9_.-]+")
 LIMIT = re.compile(r"[1-9][0-9]{0,9}")
@@ -67,6 +78,14 @@ class Lock(NamedTuple):
     is_fair: bool
 
 
+class Counter(NamedTuple):
+    """A flag, a counter, a semaphore or a channel: its word, its greatest value and its first one."""
+
+    kind: str
+    most: int
+    first: int
+
+
 class Call(NamedTuple):
     word: str
     lock: str
@@ -90,9 +109,11 @@ class Line(NamedTuple):
     word: str
     call: Call | None = None
     name: str = ""
-    # the value of the flag that `assert` wants
+    # the number that `set` gives a counter, or that a look asks whether the counter has reached; 1 for a flag
+    number_asked: int = 1
+    # the answer that `assert` wants
     value: bool = True
-    # the condition at which `until` ends, or for which the first part of an `if` is: all looks of one of these groups, each a flag and its value
+    # the condition at which `until` ends, or for which the first part of an `if` is: all looks of one of these groups, each a name, a number and an answer
     test: tuple = ()
 
 
@@ -119,13 +140,13 @@ class Party(NamedTuple):
 
 
 class Plan(NamedTuple):
-    """Locks by name, flags each with its first value, condition variables, parties, the lines that name a party, and where the text has come to.
+    """Locks and counters by name, condition variables, parties, the lines that name a party, and where the text has come to.
 
     That is the parties of the last line of parties, whose lines are below it, and the blocks open there.
     """
 
     locks: dict
-    flags: dict
+    counters: dict
     condvars: list
     parties: list
     mentions: list
@@ -352,7 +373,7 @@ def number_of(word, most):
 
 def check_states(plan):
     """Makes a fault of a plan with too many states to search."""
-    if math.prod(points(plan, party) for party in plan.parties) * 2 ** len(plan.flags) > MOST_NUMBERED:
+    if math.prod([*(points(plan, it) for it in plan.parties), *(it.most + 2 for it in plan.counters.values())]) > MOST_NUMBERED:
         raise Fault("too many states")
 
 
@@ -395,13 +416,21 @@ def lines_of(plan, number, words):
             return [Line(number, "call", Call(word, lock))]
         case [("start" | "join") as word, name] if NAME.fullmatch(name):
             return [Line(number, word, name=name)]
-        case [("set" | "clear") as word, name] if name in plan.flags:
+        case [("set" | "clear") as word, name] if has_kind(plan, name, "flag"):
             return [Line(number, word, name=name)]
+        case ["set", name, value] if is_number_of(plan, name, value):
+            return [Line(number, "set", name=name, number_asked=int(value))]
+        case [word, name] if word in MOVES and has_kind(plan, name, MOVES[word][0]):
+            return [Line(number, word, name=name)]
+        case ["try", word, name] if word in MOVES and has_kind(plan, name, MOVES[word][0]):
+            return [Line(number, f"try {word}", name=name)]
         case [("notify_one" | "notify_all") as word, name] if name in plan.condvars:
             return [Line(number, word, name=name)]
         case ["assert", *test]:
-            look = look_of(plan, test)
-            return look and [Line(number, "assert", name=look[0], value=look[1])]
+            groups = condition_of(plan, test)
+            if groups is None or len(groups) > 1:
+                return None
+            return [Line(number, "assert", name=name, number_asked=asked, value=value) for name, asked, value in groups[0]]
         case ["if", *test]:
             return test_lines(plan, number, "if", test)
         case ["repeat", "until", *test]:
@@ -411,20 +440,43 @@ def lines_of(plan, number, words):
     return None
 
 
-def look_of(plan, words):
-    """The flag and the value of a look, `FLAG` or `not FLAG`, or None."""
-    is_not = words[:1] == ["not"] and len(words) == 2
-    return (words[-1], not is_not) if len(words) == 1 + is_not and words[-1] in plan.flags else None
+def has_kind(plan, name, *kinds):
+    """Whether a counter of one of these kinds has the name."""
+    return name in plan.counters and plan.counters[name].kind in kinds
+
+
+def is_number_of(plan, name, word, above=0):
+    """Whether a counter that is no flag has the name, and its greatest value and so many above it are not below the number that the word is."""
+    return has_kind(plan, name, "counter", "semaphore", "channel") and 0 <= whole_of(word) <= plan.counters[name].most + above
+
+
+def whole_of(word):
+    """The number that a word is, from 0 to 64 and without leading zeros, or -1."""
+    return 0 if word == "0" else number_of(word, MOST_COPIES) or -1
+
+
+def looks_in(plan, words):
+    """The looks that `[not] FLAG`, `COUNTER >= N`, `COUNTER < N` or `COUNTER = N` is, each a name, a number and an answer; or None."""
+    match words:
+        case [name] if has_kind(plan, name, "flag"):
+            return [(name, 1, True)]
+        case ["not", name] if has_kind(plan, name, "flag"):
+            return [(name, 1, False)]
+        case [name, (">=" | "<" | "=") as how, word] if is_number_of(plan, name, word, how == "<") and name not in BETWEEN_LOOKS:
+            found = [(name, int(word), how != "<")]
+            return found + [(name, int(word) + 1, False)] if how == "=" else found
+    return None
 
 
 def condition_of(plan, words):
     """The groups of looks of a condition, or None where the words are none. `or` separates groups, and `and` the looks of a group."""
-    if look := look_of(plan, words):
-        return ((look,),)
+    if looks := looks_in(plan, words):
+        return (tuple(looks),)
     groups = [[it.split() for it in group.split(" and ")] for group in " ".join(words).split(" or ")]
-    looks = tuple(tuple(look_of(plan, it) if it else None for it in group) for group in groups)
-    is_right = all(it and it[0] not in BETWEEN_LOOKS for group in looks for it in group)
-    return looks if is_right else None
+    found = [[looks_in(plan, it) for it in group] for group in groups]
+    if any(looks is None or looks[0][0] in BETWEEN_LOOKS for group in found for looks in group):
+        return None
+    return tuple(tuple(look for looks in group for look in looks) for group in found)
 
 
 def test_lines(plan, number, word, words):
@@ -485,9 +537,10 @@ def read_names(plan, word, name, *rest):
         return is_right
     if word in ("party", "server"):
         return read_parties(plan, word == "server", name, rest)
-    if word == "flag":
-        is_right = rest in ((), ("true",)) and name not in plan.flags
-        plan.flags[name] = rest == ("true",)
+    if word in COUNTER_LINES:
+        counter = counter_of(word, rest)
+        is_right = counter is not None and 0 <= counter.first <= counter.most > 0 and name not in plan.counters
+        plan.counters[name] = counter
         return is_right
     if word == "condvar":
         plan.condvars.append(name)
@@ -499,6 +552,22 @@ def read_names(plan, word, name, *rest):
     is_right = word in ("mutex", "rwlock", "reentrant") and limit and len(last) == has_bar + is_fair and name not in plan.locks
     plan.locks[name] = Lock(word, limit, has_bar, is_fair)
     return is_right
+
+
+def counter_of(word, rest):
+    """The counter of a line with this word, by the words after its name, or None."""
+    match word, *rest:
+        case ["flag"] | ["flag", "true"]:
+            return Counter(word, 1, len(rest))
+        case ["counter" | "channel", most]:
+            return Counter(word, whole_of(most), 0)
+        case ["counter", most, "=", first]:
+            return Counter(word, whole_of(most), whole_of(first))
+        case ["semaphore", first]:
+            return Counter(word, whole_of(first), whole_of(first))
+        case ["semaphore", first, most]:
+            return Counter(word, whole_of(most), whole_of(first))
+    return None
 
 
 def read_parties(plan, is_server, name, rest):
@@ -566,10 +635,10 @@ def looks_of(at, line, yes, no):
     begins = [*itertools.accumulate([0, *map(len, line.test)])]
     found = {}
     for begin, end, group in zip(begins, begins[1:], line.test):
-        for look, (name, value) in enumerate(group, begin):
+        for look, (name, asked, value) in enumerate(group, begin):
             is_so = yes if look + 1 == end else at + (look + 1) / begins[-1]
             is_not = no if end == begins[-1] else at + end / begins[-1]
-            found[at + look / begins[-1]] = line._replace(word="if", name=name, test=()), *((is_so, is_not) if value else (is_not, is_so))
+            found[at + look / begins[-1]] = line._replace(word="if", name=name, number_asked=asked, test=()), *((is_so, is_not) if value else (is_not, is_so))
     return found
 
 

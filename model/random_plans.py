@@ -4,7 +4,7 @@ import random
 import re
 from typing import NamedTuple
 
-from plan_text import BLOCKS, TRIED, Fault, read_plan
+from plan_text import BLOCKS, MOVES, TRIED, Fault, read_plan
 
 # how many calls a party has at most, for 1 to 5 parties, so that a plan has some thousands of worlds at most
 MOST_CALLS = [12, 14, 9, 6, 5]
@@ -27,12 +27,14 @@ SPOILS = [
     "", " ", "\n", "x", "0", "\r", "\u00e9", " bar", " fair", "4294967296", "lock0", "party p1\n", "server p 2\n", "mutex lock0\n",
     "end\n", " not", " until flag0", " or flag0", " true", "flag flag0\n", "condvar cond0\n", "start p1\n", " or timeout", " *", "[i]", "[i+1]", "[2]", " 2",
     "repeat 2\n", "leave\n", "return\n", "repeat 1\n", "def f0 x\n", "call f0\n", "call f0 lock0\n", "pick y of row\n", " and flag0", " and not flag1",
+    "add count0\n", "receive count0\n", " = 1", " >= 2", "counter count0 2\n", "try take count0\n",
 ]
 STRAY_BLOCKS = ["repeat", "either", "else", "or", "end", "forever", "repeat 2", "leave", "return", "repeat 1", "def f9", "call f0", "pick y of row"]
 STRAY_SIGNALS = [
     "set flag0", "if flag0", "if not flag0", "wait cond0 lock0", "start p1", "join p9", "notify_all cond0", "assert flag0", "repeat until flag0",
     "wait cond0 lock0 until flag0 or timeout", "start p2 *", "join p1 *",
     "repeat until flag0 or not flag1", "wait cond0 lock0 until flag0 or flag1 or timeout", "if flag0 and not flag1 or flag1",
+    "add count0", "acquire count0", "try send count0", "set count0 1", "set flag0 1", "if count0 >= 1", "assert count0 < 1", "assert flag0 or flag1", "if flag0 = 1",
 ]
 ACQUISITIONS = [("read", "shared"), ("read", "shared"), ("write", "exclusive"), ("upgradable_read", "upgradable")]
 ANY_CALL = ["lock", "announce", *(word for word, _ in ACQUISITIONS)]
@@ -107,19 +109,35 @@ def random_signals(rng, lines, kinds, heads):
     """The names for signals; adds the lines of flags and condition variables, and makes a lock a mutex."""
     kinds["lock0"], lines[0] = "mutex", lock_line(rng, "lock0", "mutex", 1)
     flags = [f"flag{it}" for it in range(rng.randint(0, 2))]
+    counters = {f"count{it}": rng.choice(["counter", "counter", "semaphore", "channel"]) for it in range(rng.choice([0, 0, 1, 1, 2]))}
     condvars = [f"cond{it}" for it in range(rng.choice([0, 1, 1, 2]))]
     lines += [f"flag {it}{rng.choice(['', '', ' true'])}" for it in flags] + [f"condvar {it}" for it in condvars]
+    lines += [counter_line(rng, *it) for it in counters.items()]
     parties = [name for _, names in heads for name in names]
     unstarted = {it for it in parties if rng.random() < 0.4}
     unstarted |= {name for _, names in heads if len(names) > 1 and rng.random() < 0.3 for name in names}
-    return Signals(flags, condvars, parties, unstarted)
+    return Signals(flags, counters, condvars, parties, unstarted)
 
 
-def condition(rng, signals, look):
-    """A condition that begins with this look, and has others of these flags or none."""
+def counter_line(rng, name, kind):
+    """The line of a counter, a semaphore or a channel."""
+    most = rng.choice([1, 1, 2, 3])
+    last = {"counter": ["", f" = {rng.randint(0, most)}"], "semaphore": ["", f" {most + rng.randint(0, 1)}"], "channel": [""]}
+    return f"{kind} {name} {most}{rng.choice(last[kind])}"
+
+
+def look(rng, signals):
+    """A look at a flag or a counter."""
+    name = rng.choice([*signals.flags, *signals.counters])
+    return f"{name} {rng.choice(['>=', '<', '='])} {rng.choice([0, 1, 1, 2])}" if name in signals.counters else f"{rng.choice(['', '', 'not '])}{name}"
+
+
+def condition(rng, signals):
+    """A condition of one look or several."""
+    found = look(rng, signals)
     for _ in range(rng.choice([0, 0, 0, 1, 1, 2])):
-        look += f" {rng.choice(['and', 'or'])} {rng.choice(['', '', 'not '])}{rng.choice(signals.flags)}"
-    return look
+        found += f" {rng.choice(['and', 'or'])} {look(rng, signals)}"
+    return found
 
 
 def with_pick(rng, lines):
@@ -177,7 +195,7 @@ def chain_lines(rng, signals, number):
     signals.unstarted.clear()
     if number + 1 == len(signals.parties):
         return ["lock lock0", *[f"set {it}" for it in flags], f"notify_{rng.choice(['one', 'all'])} {condvar}", "unlock lock0"]
-    until = f" until {condition(rng, signals, flags[0])}" if flags else ""
+    until = f" until {rng.choice([flags[0], condition(rng, signals)])}" if flags else ""
     until += rng.choice(["", "", " or timeout"])
     return ["lock lock0", f"start {signals.parties[number + 1]}", f"wait {condvar} lock0{until}", "unlock lock0"]
 
@@ -223,12 +241,16 @@ def lock_line(rng, name, kind, limit):
 
 
 class Signals(NamedTuple):
-    """The flags, condition variables and parties of a plan, and which parties still want a line that starts them."""
+    """The flags, counters, condition variables and parties of a plan, and which parties still want a line that starts them."""
 
     flags: list
+    counters: dict
     condvars: list
     parties: list
     unstarted: set
+
+    def has_looks(self):
+        return bool(self.flags or self.counters)
 
 
 class Maker(NamedTuple):
@@ -325,10 +347,15 @@ class Maker(NamedTuple):
         flag = rng.choice(signals.flags) if signals.flags else None
         if flag:
             found += [f"{rng.choice(['set', 'set', 'set', 'clear', 'assert', 'assert not'])} {flag}"]
+        if signals.counters:
+            name = rng.choice([*signals.counters])
+            moves = [word for word, (kind, _) in MOVES.items() if kind == signals.counters[name] or rng.random() < 0.01]
+            found += [f"{rng.choice(moves)} {name}", f"{rng.choice(moves)} {name}", f"set {name} {rng.choice([0, 1])}"]
+            found += [f"assert {look(rng, signals)}{rng.choice(['', '', f' and {look(rng, signals)}'])}"] if rng.random() < 0.4 else []
         if signals.condvars:
             condvar = rng.choice(signals.condvars)
             found += [f"notify_{rng.choice(['one', 'all'])} {condvar}"]
-            until = f" until {condition(rng, signals, rng.choice(['', '', 'not ']) + flag)}" if flag and rng.random() < 0.7 else ""
+            until = f" until {condition(rng, signals)}" if signals.has_looks() and rng.random() < 0.7 else ""
             until += rng.choice(["", "", " or timeout"])
             found += 2 * [f"wait {condvar} {lock}{until}" for lock, mode in held if self.kinds[lock] == "mutex" or rng.random() < 0.02]
         return [rng.choice(found)] if found else [self.join()]
@@ -338,8 +365,12 @@ class Maker(NamedTuple):
         word = self.rng.choice(["repeat", "repeat", "either", "try"])
         if word == "repeat":
             return self.loop(held)
-        if self.signals and self.signals.flags and self.rng.random() < 0.5:
-            return [self.test(self.rng.choice(self.signals.flags)), *self.part(held), *self.other_part(held), "end"]
+        if self.signals and self.signals.has_looks() and self.rng.random() < 0.5:
+            return [f"if {condition(self.rng, self.signals)}", *self.part(held), *self.other_part(held), "end"]
+        if self.signals and self.signals.counters and self.rng.random() < 0.7:
+            name = self.rng.choice([*self.signals.counters])
+            word = self.rng.choice([word for word, (kind, _) in MOVES.items() if kind == self.signals.counters[name]])
+            return [f"try {word} {name}", *self.part(held), *self.other_part(held), "end"]
         if word == "either":
             parts = [["or", *self.part(held)] for _ in range(self.rng.randint(1, 3))]
             return ["either", *self.part(held), *[line for part in parts for line in part], "end"]
@@ -350,10 +381,6 @@ class Maker(NamedTuple):
         undone = "downgrade_to_upgradable" if given else RELEASES[self.kinds[lock]][taken]
         after = [it for it in held if it != (lock, given)] + [(lock, taken)]
         return [f"try {word} {lock}", *self.part(after), f"{undone} {lock}", *self.other_part(held), "end"]
-
-    def test(self, flag):
-        """The first line of a block that branches on the flag, and perhaps on others."""
-        return f"if {condition(self.rng, self.signals, self.rng.choice(['', 'not ']) + flag)}"
 
     def other_part(self, held):
         """The `else` of a party with these holds and the lines below it, or nothing."""
@@ -368,8 +395,8 @@ class Maker(NamedTuple):
 
     def loop(self, held):
         """A loop of a party with these holds, or a block that is made twice."""
-        flags = self.signals.flags if self.signals else []
-        tests = [f"repeat until {condition(self.rng, self.signals, self.rng.choice(['', 'not ']) + it)}" for it in flags]
+        has_looks = self.signals and self.signals.has_looks()
+        tests = [f"repeat until {condition(self.rng, self.signals)}" for _ in self.signals.flags or [""]] if has_looks else []
         head = self.rng.choice(["repeat", "forever", "repeat 2", "repeat 2", "repeat 1", *2 * tests])
         is_counted = head in ("repeat 1", "repeat 2")
         ways_out = self.way_out(held, head == "forever") if head == "forever" or not is_counted and self.rng.random() < 0.6 else []
@@ -379,7 +406,8 @@ class Maker(NamedTuple):
         """A branch of a party with these holds in which it may go out of a loop, or end."""
         rng = self.rng
         jump = ["leave"] if rng.random() < (0.8 if is_only else 0.4) else [*self.releases_of(held), "return"]
-        head, between = rng.choice([("either", "or"), *[(self.test(it), "else") for it in (self.signals.flags if self.signals else [])]])
+        tests = [(f"if {condition(rng, self.signals)}", "else")] if self.signals and self.signals.has_looks() else []
+        head, between = rng.choice([("either", "or"), *tests])
         found = [head, *jump, between, "end"] if rng.random() < 0.5 else [head, between, *jump, "end"]
         if between == "else" and rng.random() < 0.5:
             found = [head, *jump, "end"]

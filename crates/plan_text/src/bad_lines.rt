@@ -142,6 +142,7 @@ pub(crate) fn word_of(words: &Words, fields: &[usize], fault: LineFault) -> usiz
         | LineFault::TakenCopy(word)
         | LineFault::Arguments(word, _)
         | LineFault::NotAbove(word)
+        | LineFault::TooHigh(word, _)
         | LineFault::StartedTwice(word) => after(fields, 1, word),
         LineFault::NoChoice(word) => after(fields, 3, word),
         LineFault::NotUtf8 => fields
@@ -169,7 +170,7 @@ fn first_name(words: &Words, fields: &[usize], kind: NameKind) -> usize {
         None => None,
     };
     match (role, kind) {
-        (Some(Role::Wait), NameKind::Flag) => 4,
+        (Some(Role::Wait), NameKind::Counter(_)) => 4,
         (Some(Role::Wait), NameKind::Lock) | (Some(Role::Repeat), _) | (Some(Role::Try), _) => 2,
         _ => 1,
     }

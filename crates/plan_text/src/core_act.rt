@@ -1,8 +1,10 @@
 //! Reading the act of a place of a core.
+use crate::counter::{Counter, CounterKind};
 use crate::line_fault::{LineFault, NameKind};
 use crate::names::{NameSet, Names};
 use lock_modes::{LockStep, Mode, ModeStep};
 use lock_plan::{Act, Block, PlanCall, Signal};
+use script_text::unsigned;
 
 /// Reads an act of these words.
 pub(crate) fn act(names: &Names, fields: &[usize]) -> Result<Act, LineFault> {
@@ -10,22 +12,39 @@ pub(crate) fn act(names: &Names, fields: &[usize]) -> Result<Act, LineFault> {
         return Err(LineFault::NoPlace);
     };
     match (names.words.text(*word), rest) {
+        ("try", [word, counter]) if names.words.is(*word, "add") => {
+            let (row, counter) = counter_of(names, *counter)?;
+            Ok(Act::Choose(Block::TryAdd(row, counter.most)))
+        }
+        ("try", [word, counter]) if names.words.is(*word, "take") => {
+            let (row, _) = counter_of(names, *counter)?;
+            Ok(Act::Choose(Block::TryTake(row)))
+        }
         ("try", call) => Ok(Act::Try(read_call(names, call)?)),
         ("repeat", []) => Ok(Act::Choose(Block::Repeat)),
         ("either", []) => Ok(Act::Choose(Block::Either)),
-        ("if", [flag]) => Ok(Act::Choose(Block::If(flag_row(names, *flag)?))),
+        ("if", look) => {
+            let (row, number, value) = look_of(names, look)?;
+            if value {
+                Ok(Act::Choose(Block::AtLeast(row, number)))
+            } else {
+                Err(LineFault::NoPlace)
+            }
+        }
+        ("assert", look) => {
+            let (row, number, value) = look_of(names, look)?;
+            Ok(Act::Signal(Signal::AssertAtLeast(row, number, value)))
+        }
+        ("set", [name, number]) => Ok(Act::Signal(set_counter(names, *name, *number)?)),
         ("sleep", [condvar, or, last])
             if names.words.is(*or, "or") && names.words.is(*last, "timeout") => {
             Ok(Act::Choose(Block::TimedSleep(condvar_of(names, *condvar)?)))
         }
-        ("idle", []) => Ok(Act::Signal(Signal::Idle)),
+        ("idle", []) => Ok(Act::Signal(Signal::Idle(0))),
         (word, [name]) => match signal(names, word, *name)? {
             Some(signal) => Ok(Act::Signal(signal)),
             None => Ok(Act::Call(read_call(names, fields)?)),
         },
-        ("assert", [not, flag]) if names.words.is(*not, "not") => {
-            Ok(Act::Signal(assertion(names, false, *flag)?))
-        }
         _ => Ok(Act::Call(read_call(names, fields)?)),
     }
 }
@@ -38,26 +57,75 @@ fn signal(names: &Names, word: &str, name: usize) -> Result<Option<Signal>, Line
         "notify_all" => Signal::NotifyAll(condvar_of(names, name)?),
         "start" => Signal::Start(party_of(names, name)?),
         "join" => Signal::Join(party_of(names, name)?),
-        "set" => set(names, true, name)?,
-        "clear" => set(names, false, name)?,
-        "assert" => assertion(names, true, name)?,
+        "set" => set_flag(names, true, name)?,
+        "clear" => set_flag(names, false, name)?,
+        "add" => {
+            let (row, counter) = counter_of(names, name)?;
+            Signal::Add(row, counter.most)
+        }
+        "take" => Signal::Take(counter_of(names, name)?.0),
         _ => return Ok(None),
     };
     Ok(Some(signal))
 }
 
-fn set(names: &Names, value: bool, flag: usize) -> Result<Signal, LineFault> {
-    let row = flag_row(names, flag)?;
-    Ok(if names.value(row, true) == value {
-        Signal::Start(row)
-    } else {
-        Signal::Clear(row)
-    })
+fn set_flag(names: &Names, value: bool, name: usize) -> Result<Signal, LineFault> {
+    let (row, flag) = flag_of(names, name)?;
+    Ok(Signal::Set(row, flag.place(usize::from(value))))
 }
 
-fn assertion(names: &Names, value: bool, flag: usize) -> Result<Signal, LineFault> {
-    let row = flag_row(names, flag)?;
-    Ok(Signal::Assert(row, names.value(row, true) == value))
+fn set_counter(names: &Names, name: usize, number: usize) -> Result<Signal, LineFault> {
+    let (row, counter) = counter_of(names, name)?;
+    let value = number_in(names, name, number, counter.most)?;
+    Ok(Signal::Set(row, counter.place(value)))
+}
+
+/// A row, a number, and whether the row is to be at the number or above.
+type RowLook = (usize, usize, bool);
+
+/// Reads a look at a flag or a counter.
+fn look_of(names: &Names, fields: &[usize]) -> Result<RowLook, LineFault> {
+    match fields {
+        [flag] => Ok((flag_of(names, *flag)?.0, 1, true)),
+        [not, flag] if names.words.is(*not, "not") => Ok((flag_of(names, *flag)?.0, 1, false)),
+        [name, how, number] => {
+            let (row, counter) = counter_of(names, *name)?;
+            let value = names.words.is(*how, ">=");
+            if !value && !names.words.is(*how, "<") {
+                return Err(LineFault::NoPlace);
+            }
+            let most = counter.most.saturating_add(1);
+            Ok((row, number_in(names, *name, *number, most)?, value))
+        }
+        _ => Err(LineFault::NoPlace),
+    }
+}
+
+/// Reads a number of at most `most`, for the counter with this name.
+fn number_in(names: &Names, name: usize, field: usize, most: usize) -> Result<usize, LineFault> {
+    match unsigned(names.words.text(field)).and_then(|number| usize::try_from(number).ok()) {
+        None => Err(LineFault::NoPlace),
+        Some(number) if number > most => Err(LineFault::TooHigh(name, most)),
+        Some(number) => Ok(number),
+    }
+}
+
+/// Returns the row of a flag, and the flag.
+fn flag_of(names: &Names, name: usize) -> Result<(usize, Counter), LineFault> {
+    match names.counter_of(name) {
+        Some(flag) if flag.kind == CounterKind::Flag => Ok((names.counter_row(name), flag)),
+        _ => Err(LineFault::Unknown(NameKind::Counter(CounterKind::Flag), name)),
+    }
+}
+
+/// Returns the row of a counter that is no flag, and the counter.
+fn counter_of(names: &Names, name: usize) -> Result<(usize, Counter), LineFault> {
+    match names.counter_of(name) {
+        Some(counter) if counter.kind != CounterKind::Flag => {
+            Ok((names.counter_row(name), counter))
+        }
+        _ => Err(LineFault::Unknown(NameKind::Counter(CounterKind::Counter), name)),
+    }
 }
 
 /// Reads a call: its word, its lock and the modes.
@@ -101,11 +169,6 @@ fn condvar_of(names: &Names, name: usize) -> Result<usize, LineFault> {
 
 fn party_of(names: &Names, name: usize) -> Result<usize, LineFault> {
     number(&names.parties, NameKind::Party, name)
-}
-
-fn flag_row(names: &Names, name: usize) -> Result<usize, LineFault> {
-    let flag = number(&names.flags, NameKind::Flag, name)?;
-    Ok(names.parties.len().saturating_add(flag))
 }
 
 fn number(set: &NameSet, kind: NameKind, name: usize) -> Result<usize, LineFault> {

@@ -2,7 +2,7 @@
 use crate::bad_lines::{fault_of, word_of};
 use crate::core_act::act;
 use crate::core_plan::Core;
-use crate::core_text::{has_two_ways, ways};
+use crate::core_text::has_two_ways;
 use crate::fault::TextFault;
 use crate::forms::Role;
 use crate::line::{Line, Written};
@@ -52,7 +52,7 @@ fn read_scanned(alloc: Global, scanned: &mut Scanned) -> Result<Core, TextFault>
     }
     let mut programs = Programs::new(alloc);
     add_programs(alloc, &tree.names, &mut programs, fields, lines)?;
-    programs.add_flags(alloc, tree.names.flags.len())?;
+    programs.add_counters(alloc, tree.names.counters.as_slice())?;
     Ok(Core::of(alloc, &mut tree, programs))
 }
 
@@ -89,7 +89,7 @@ fn add_name(alloc: Global, tree: &mut Tree, line: Line, fields: &[usize]) -> Res
         return Ok(());
     };
     match form.2 {
-        Role::Lock(_) | Role::Flag | Role::Condvar => {
+        Role::Lock(_) | Role::Counter(_) | Role::Condvar => {
             match read(&tree.names.words, &mut tree.looks, fields, Written::No)? {
                 Some(said) => tree.add(alloc, line.at, *word, form, said),
                 None => Err(Refusal::Bad(LineFault::Form(form))),
@@ -168,7 +168,7 @@ impl Below {
             return Ok(Ok(()));
         };
         match names.words.form(*word).map(|form| form.2) {
-            Some(Role::Lock(_) | Role::Flag | Role::Condvar) => Ok(Ok(())),
+            Some(Role::Lock(_) | Role::Counter(_) | Role::Condvar) => Ok(Ok(())),
             Some(Role::Party(_)) => {
                 let ended = self.end(alloc, programs)?;
                 self.parties = Some(rest.len());
@@ -287,8 +287,7 @@ fn read_place<'a>(
         next: first,
         other: second.unwrap_or(first),
     };
-    let (next, other) = ways(names, place);
-    Ok((ProgramPlace { act, next, other }, line))
+    Ok((place, line))
 }
 
 /// Returns where the arrow is among words, or their number.

@@ -1,5 +1,6 @@
 //! The text of a core: what is searched, a line for each place.
 use crate::core_plan::Core;
+use crate::counter::{Counter, CounterKind};
 use crate::names::Names;
 use crate::origin::Origin;
 use itoa::Buffer;
@@ -32,14 +33,9 @@ impl Core {
         for (number, lock) in self.locks.iter().enumerate() {
             write_lock(text, self.names.lock(number), *lock)?;
         }
-        for flag in 0..self.names.flags.len() {
-            let row = self.names.parties().saturating_add(flag);
-            write!(text, "flag {}", self.names.row(row))?;
-            text.push_str(if self.names.is_true_first(flag) {
-                " true\n"
-            } else {
-                "\n"
-            })?;
+        for (number, counter) in self.names.counters.iter().enumerate() {
+            let row = self.names.parties().saturating_add(number);
+            write_counter(text, self.names.row(row), *counter)?;
         }
         for condvar in 0..self.names.condvars.len() {
             writeln!(text, "condvar {}", self.names.condvar(condvar))?;
@@ -68,6 +64,18 @@ impl Core {
             write_place(text, &self.names, number, *place, places.len(), origin)?;
         }
         Ok(())
+    }
+}
+
+fn write_counter(text: &mut String, name: &str, counter: Counter) -> Result<(), AllocError> {
+    let Counter { kind, most, first } = counter;
+    write!(text, "{} {name}", kind.word())?;
+    match kind {
+        CounterKind::Flag if first == 0 => text.push('\n'),
+        CounterKind::Flag => text.push_str(" true\n"),
+        CounterKind::Counter => writeln!(text, " {most} = {first}"),
+        CounterKind::Semaphore => writeln!(text, " {first} {most}"),
+        CounterKind::Channel => writeln!(text, " {most}"),
     }
 }
 
@@ -101,22 +109,13 @@ fn write_place(
     write_act(text, names, place.act)?;
     pad(text, start, ACT_WIDTH)?;
     text.push_str(" -> ")?;
-    let (first, second) = ways(names, place);
-    write_way(text, first, places)?;
+    write_way(text, place.next, places)?;
     if has_two_ways(place.act) {
         text.push_str(" | ")?;
-        write_way(text, second, places)?;
+        write_way(text, place.other, places)?;
     }
     pad(text, start, WAYS_WIDTH)?;
     writeln!(text, " line {origin}")
-}
-
-/// Returns the ways of a place, of a look the one for a true flag first.
-pub(crate) fn ways(names: &Names, place: ProgramPlace) -> (usize, usize) {
-    match place.act {
-        Act::Choose(Block::If(row)) if !names.value(row, true) => (place.other, place.next),
-        _ => (place.next, place.other),
-    }
 }
 
 /// Returns whether a place with this act has two ways.
@@ -141,7 +140,12 @@ fn write_act(text: &mut String, names: &Names, act: Act) -> Result<(), AllocErro
         }
         Act::Choose(Block::Repeat) => text.push_str("repeat"),
         Act::Choose(Block::Either) => text.push_str("either"),
-        Act::Choose(Block::If(row)) => write!(text, "if {}", names.row(row)),
+        Act::Choose(Block::AtLeast(row, number)) => {
+            text.push_str("if ")?;
+            write_look(text, names, (row, number), true)
+        }
+        Act::Choose(Block::TryAdd(row, _)) => write!(text, "try add {}", names.row(row)),
+        Act::Choose(Block::TryTake(row)) => write!(text, "try take {}", names.row(row)),
         Act::Choose(Block::TimedSleep(condvar)) => {
             write!(text, "sleep {} or timeout", names.condvar(condvar))
         }
@@ -176,29 +180,47 @@ fn mode_word(mode: Mode) -> &'static str {
 
 fn write_signal(text: &mut String, names: &Names, signal: Signal) -> Result<(), AllocError> {
     match signal {
-        Signal::Idle => text.push_str("idle"),
+        Signal::Idle(_) => text.push_str("idle"),
         Signal::Sleep(condvar) => write!(text, "sleep {}", names.condvar(condvar)),
-        Signal::Start(row) if names.is_party(row) => write!(text, "start {}", names.row(row)),
-        Signal::Start(row) => write_set(text, names, row, names.value(row, true)),
-        Signal::Clear(row) => write_set(text, names, row, names.value(row, false)),
+        Signal::Start(row) => write!(text, "start {}", names.row(row)),
+        Signal::Add(row, _) => write!(text, "add {}", names.row(row)),
+        Signal::Take(row) => write!(text, "take {}", names.row(row)),
+        Signal::Set(row, place) => write_set(text, names, row, place),
         Signal::Join(row) => write!(text, "join {}", names.row(row)),
-        Signal::Assert(row, ended) => {
-            text.push_str(if names.value(row, ended) {
-                "assert "
-            } else {
-                "assert not "
-            })?;
-            text.push_str(names.row(row))
+        Signal::AssertAtLeast(row, number, value) => {
+            text.push_str("assert ")?;
+            write_look(text, names, (row, number), value)
         }
         Signal::NotifyOne(condvar) => write!(text, "notify_one {}", names.condvar(condvar)),
         Signal::NotifyAll(condvar) => write!(text, "notify_all {}", names.condvar(condvar)),
     }
 }
 
-/// Appends the word that gives a flag this value.
-fn write_set(text: &mut String, names: &Names, row: usize, value: bool) -> Result<(), AllocError> {
-    text.push_str(if value { "set " } else { "clear " })?;
-    text.push_str(names.row(row))
+/// Appends the word that moves a counter to the place, its name, and the value if it is no flag.
+fn write_set(text: &mut String, names: &Names, row: usize, place: usize) -> Result<(), AllocError> {
+    let (name, value) = (names.row(row), names.value(row, place));
+    match (names.is_flag(row), value) {
+        (true, 0) => write!(text, "clear {name}"),
+        (true, _) => write!(text, "set {name}"),
+        (false, value) => write!(text, "set {name} {value}"),
+    }
+}
+
+/// Appends a look at a row: whether it is to be at this number or above, or not.
+pub fn write_look(
+    text: &mut String,
+    names: &Names,
+    look: (usize, usize),
+    value: bool,
+) -> Result<(), AllocError> {
+    let (row, number) = look;
+    let name = names.row(row);
+    match (names.is_flag(row), value) {
+        (true, true) => text.push_str(name),
+        (true, false) => write!(text, "not {name}"),
+        (false, true) => write!(text, "{name} >= {number}"),
+        (false, false) => write!(text, "{name} < {number}"),
+    }
 }
 
 /// Appends spaces until so many bytes come after this place.

@@ -1,4 +1,5 @@
 //! The words that lines begin with.
+use crate::counter::CounterKind;
 use lock_modes::{Kind, LockStep, Mode, ModeStep};
 
 /// A word that lines begin with: the word, what comes after it as a usage line has it, and what such a line does.
@@ -13,7 +14,8 @@ pub(crate) struct Form(
 #[derive(Clone, Copy, PartialEq, Eq)]
 pub(crate) enum Role {
     Lock(Kind),
-    Flag,
+    /// A flag, a counter, a semaphore or a channel.
+    Counter(CounterKind),
     Condvar,
     /// Begins parties, and whether they are servers.
     Party(bool),
@@ -23,6 +25,8 @@ pub(crate) enum Role {
     Invoke,
     /// A call of a lock, and whether its word is one for reader-writer locks.
     Call(bool, LockStep),
+    /// Moves a counter of this kind up, or down.
+    Move(CounterKind, bool),
     Set,
     Clear,
     Assert,
@@ -45,7 +49,7 @@ pub(crate) enum Role {
 }
 
 /// All words that lines begin with. A word's number in [`Words`](crate::words::Words) is its place here.
-pub(crate) static FORMS: [Form; 43] = [
+pub(crate) static FORMS: [Form; 52] = [
     Form("mutex", "NAME [fair]", Role::Lock(Kind::Mutex)),
     Form(
         "rwlock",
@@ -53,7 +57,7 @@ pub(crate) static FORMS: [Form; 43] = [
         Role::Lock(Kind::RwLock),
     ),
     Form("reentrant", "NAME LEVELS", Role::Lock(Kind::Reentrant)),
-    Form("flag", "NAME [true]", Role::Flag),
+    Form("flag", "NAME [true]", Role::Counter(CounterKind::Flag)),
     Form("condvar", "NAME", Role::Condvar),
     Form("party", "NAME [COUNT | *]", Role::Party(false)),
     Form("server", "NAME [COUNT | *]", Role::Party(true)),
@@ -136,9 +140,9 @@ pub(crate) static FORMS: [Form; 43] = [
     ),
     Form("announce", "LOCK", Role::Call(true, LockStep::Announce)),
     Form("withdraw", "LOCK", Role::Call(true, LockStep::Withdraw)),
-    Form("set", "FLAG", Role::Set),
+    Form("set", "FLAG | COUNTER N", Role::Set),
     Form("clear", "FLAG", Role::Clear),
-    Form("assert", "[not] FLAG", Role::Assert),
+    Form("assert", "LOOK [and LOOK]..", Role::Assert),
     Form(
         "wait",
         "CONDVAR MUTEX [until CONDITION] [or timeout]",
@@ -154,11 +158,44 @@ pub(crate) static FORMS: [Form; 43] = [
     Form("return", "", Role::Return),
     Form("either", "", Role::Either),
     Form("or", "", Role::Or),
-    Form("try", "CALL LOCK", Role::Try),
+    Form("try", "CALL NAME", Role::Try),
     Form("if", "CONDITION", Role::If),
     Form("else", "", Role::Else),
     Form("end", "", Role::End),
     Form("def", "NAME [PARAMETER..]", Role::Define),
     Form("call", "NAME [ARGUMENT..]", Role::Invoke),
     Form("pick", "NAME of ROW [except LOCK]", Role::Pick),
+    Form(
+        "counter",
+        "NAME MAX [= N]",
+        Role::Counter(CounterKind::Counter),
+    ),
+    Form(
+        "semaphore",
+        "NAME PERMITS [MAX]",
+        Role::Counter(CounterKind::Semaphore),
+    ),
+    Form(
+        "channel",
+        "NAME CAPACITY",
+        Role::Counter(CounterKind::Channel),
+    ),
+    Form("add", "COUNTER", Role::Move(CounterKind::Counter, true)),
+    Form("take", "COUNTER", Role::Move(CounterKind::Counter, false)),
+    Form(
+        "acquire",
+        "SEMAPHORE",
+        Role::Move(CounterKind::Semaphore, false),
+    ),
+    Form(
+        "release",
+        "SEMAPHORE",
+        Role::Move(CounterKind::Semaphore, true),
+    ),
+    Form("send", "CHANNEL", Role::Move(CounterKind::Channel, true)),
+    Form(
+        "receive",
+        "CHANNEL",
+        Role::Move(CounterKind::Channel, false),
+    ),
 ];

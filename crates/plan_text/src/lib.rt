@@ -12,6 +12,7 @@ mod core_act;
 mod core_plan;
 mod core_reading;
 mod core_text;
+mod counter;
 mod fault;
 mod forms;
 mod functions;
@@ -39,6 +40,7 @@ mod words;
 
 pub use core_plan::{Core, NamedPlan, read_plan};
 pub use core_reading::read_core;
+pub use core_text::write_look;
 pub use fault::{BadLine, TextFault};
 pub use names::Names;
 pub use origin::Origin;

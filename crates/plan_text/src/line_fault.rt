@@ -1,4 +1,5 @@
 //! Why a line is bad.
+use crate::counter::CounterKind;
 use crate::forms::Form;
 use crate::origin::Origin;
 use crate::words::Words;
@@ -9,7 +10,7 @@ use std::fmt;
 #[derive(Clone, Copy)]
 pub(crate) enum NameKind {
     Lock,
-    Flag,
+    Counter(CounterKind),
     Condvar,
     Party,
     Function,
@@ -34,6 +35,10 @@ pub(crate) enum LineFault {
     NoIndex(usize),
     /// The lock of this word has no limit.
     NoLimit(usize),
+    /// The counter of this word has no greatest value.
+    NoMost(usize),
+    /// A number is over the greatest value of the counter with this name.
+    TooHigh(usize, usize),
     NoCount(usize),
     /// A line for all copies of the party with this name, which has none.
     NoCopies(usize),
@@ -131,7 +136,7 @@ impl fmt::Display for NameKind {
     fn fmt<W: fmt::Write>(&self, f: &mut fmt::Formatter<W>) -> fmt::Result {
         f.write_str(match self {
             NameKind::Lock => "lock",
-            NameKind::Flag => "flag",
+            NameKind::Counter(kind) => kind.word(),
             NameKind::Condvar => "condvar",
             NameKind::Party => "party",
             NameKind::Function => "function",
@@ -169,6 +174,8 @@ impl fmt::Display for Why<'_> {
             LineFault::NoLimit(word) => {
                 write!(f, "'{}' needs a limit from 1 to 4294967295", text(word))
             }
+            LineFault::NoMost(word) => write!(f, "'{}' needs a number from 1 to 64", text(word)),
+            LineFault::TooHigh(name, most) => { write!(f, "'{}' is never over {most}", text(name)) }
             LineFault::NoCount(word) => {
                 write!(f, "'{}' is no count from 1 to 64, and no '*'", text(word))
             }
@@ -181,7 +188,7 @@ impl fmt::Display for Why<'_> {
             }
             LineFault::NotTried(word) => write!(
                 f,
-                "no try of '{}'; a try is of lock, read, write, upgradable_read or upgrade",
+                "no try of '{}'; a try is of lock, read, write, upgradable_read, upgrade, add, take, acquire, release, send or receive",
                 text(word)
             ),
             LineFault::Unknown(kind, name) => write!(f, "no {kind} '{}'", text(name)),

@@ -1,7 +1,8 @@
 //! Why a line is not in the format.
-use crate::forms::{FORMS, Role};
+use crate::counter::CounterKind;
+use crate::forms::{FORMS, Form, Role};
 use crate::line_fault::LineFault;
-use crate::reading::{begins_by_digit, limit, parties, tried_call};
+use crate::reading::{begins_by_digit, limit, number, parties, tried_call};
 use crate::words::Words;
 use lock_modes::Kind;
 use script_text::unsigned;
@@ -29,6 +30,7 @@ pub(crate) fn misread(
     if let (Role::Try, [call, _, ..]) = (form.2, rest) {
         if tried_call(words, *call).is_none() {
             return match words.form(*call) {
+                Some(Form(_, _, Role::Move(..))) => Ok(LineFault::Form(form)),
                 Some(_) => Ok(LineFault::NotTried(*call)),
                 None => unknown_word(alloc, words, *call),
             };
@@ -62,7 +64,7 @@ fn wrong_field(words: &Words, word: usize, role: Role, fields: &[usize]) -> Opti
     };
     let (name, last) = (*name, last);
     match role {
-        Role::Lock(_) | Role::Flag | Role::Condvar if !words.is_name(name) => {
+        Role::Lock(_) | Role::Counter(_) | Role::Condvar if !words.is_name(name) => {
             Some(if has_bracket(words, name) {
                 LineFault::NoRow(name)
             } else {
@@ -78,7 +80,15 @@ fn wrong_field(words: &Words, word: usize, role: Role, fields: &[usize]) -> Opti
             };
             (!is_right).then_some(LineFault::NoLimit(word))
         }
-        Role::Flag | Role::Condvar => None,
+        Role::Counter(CounterKind::Flag) | Role::Condvar => None,
+        Role::Counter(_) => {
+            let is_right = match last {
+                [] => false,
+                [most, ..] => number(words.text(*most)).is_some(),
+            };
+            (!is_right).then_some(LineFault::NoMost(word))
+        }
+        Role::Set if words.is_name(name) => None,
         Role::Define if !words.is_name(name) => Some(LineFault::NoName(name)),
         Role::Party(_) if !words.is_name(name) => Some(LineFault::NoName(name)),
         Role::Party(_) => match last {

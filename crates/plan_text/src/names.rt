@@ -1,4 +1,5 @@
 //! The names of a plan.
+use crate::counter::{Counter, CounterKind};
 use crate::words::Words;
 use indexmap::IndexSet;
 use std::alloc::Global;
@@ -6,15 +7,15 @@ use std::alloc::Global;
 /// Names in the order in which they were added, each once, by the numbers of words.
 pub(crate) type NameSet = IndexSet<usize>;
 
-/// The names of a plan's locks, parties, flags and condition variables, in the plan's order.
+/// The names of a plan's locks, parties, counters and condition variables, in the plan's order.
 #[derive(Drop)]
 pub struct Names {
     pub(crate) words: Words,
     pub(crate) locks: NameSet,
     pub(crate) parties: NameSet,
-    pub(crate) flags: NameSet,
-    /// Whether each flag is true at first.
-    pub(crate) first_values: Vec<bool>,
+    /// The flags, counters, semaphores and channels.
+    pub(crate) counter_names: NameSet,
+    pub(crate) counters: Vec<Counter>,
     pub(crate) condvars: NameSet,
 }
 
@@ -24,8 +25,8 @@ impl Names {
             words,
             locks: IndexSet::new(alloc),
             parties: IndexSet::new(alloc),
-            flags: IndexSet::new(alloc),
-            first_values: Vec::new(alloc),
+            counter_names: IndexSet::new(alloc),
+            counters: Vec::new(alloc),
             condvars: IndexSet::new(alloc),
         }
     }
@@ -50,7 +51,7 @@ impl Names {
         self.parties.len()
     }
 
-    /// Returns whether a row is a party. The rows after the parties are the flags.
+    /// Returns whether a row is a party. The rows after the parties are the counters.
     pub fn is_party(&self, row: usize) -> bool {
         row < self.parties()
     }
@@ -59,14 +60,56 @@ impl Names {
     pub fn row(&self, row: usize) -> &str {
         match row.checked_sub(self.parties()) {
             None => self.party(row),
-            Some(flag) => self.name_in(&self.flags, flag),
+            Some(counter) => self.name_in(&self.counter_names, counter),
         }
     }
 
-    /// Returns the value of a flag, by whether its row has ended.
-    pub fn value(&self, row: usize, ended: bool) -> bool {
-        let flag = row.checked_sub(self.parties());
-        ended != flag.is_some_and(|flag| self.is_true_first(flag))
+    /// Returns whether a row is a flag.
+    pub fn is_flag(&self, row: usize) -> bool {
+        self.counter_at(row).kind == CounterKind::Flag
+    }
+
+    /// Returns the value of a counter at this place of its program.
+    pub fn value(&self, row: usize, place: usize) -> usize {
+        self.counter_at(row).value(place)
+    }
+
+    /// Returns the word that declares a row.
+    pub fn kind_word(&self, row: usize) -> &'static str {
+        self.counter_at(row).kind.word()
+    }
+
+    /// Returns the word that moves a counter up, or down.
+    pub fn move_word(&self, row: usize, is_up: bool) -> &'static str {
+        self.counter_at(row).kind.move_word(is_up)
+    }
+
+    /// Returns the counter of a row. Any other row is as a flag.
+    pub(crate) fn counter_at(&self, row: usize) -> Counter {
+        match row.checked_sub(self.parties()) {
+            Some(counter) => self.counter(counter),
+            None => Counter::flag(false),
+        }
+    }
+
+    /// Returns a counter, counted from 0.
+    pub(crate) fn counter(&self, counter: usize) -> Counter {
+        match self.counters.get(counter) {
+            Some(counter) => *counter,
+            None => Counter::flag(false),
+        }
+    }
+
+    /// Returns the counter with this name.
+    pub(crate) fn counter_of(&self, name: usize) -> Option<Counter> {
+        let counter = self.counter_names.get_index_of(&name)?;
+        self.counters.get(counter).copied()
+    }
+
+    /// Returns the row of the counter with this name.
+    pub(crate) fn counter_row(&self, name: usize) -> usize {
+        let counter = self.counter_names.get_index_of(&name).unwrap_or(0);
+        self.parties().saturating_add(counter)
     }
 
     /// Returns whether a party is any number of parties.
@@ -77,11 +120,6 @@ impl Names {
     /// Returns whether some party is any number of parties.
     pub fn has_many(&self) -> bool {
         (0..self.parties()).any(|party| self.is_many(party))
-    }
-
-    /// Returns whether a flag is true at first. Flags are counted from 0.
-    pub(crate) fn is_true_first(&self, flag: usize) -> bool {
-        self.first_values.get(flag).copied().unwrap_or(false)
     }
 
     fn name_in(&self, names: &NameSet, number: usize) -> &str {

@@ -1,4 +1,5 @@
 //! From the tree of a party to the places of its program.
+use crate::counter::Counter;
 use crate::line::Written;
 use crate::names::Names;
 use crate::origin::LineAt;
@@ -110,6 +111,7 @@ fn begins(said: Said) -> bool {
     matches!(
         said,
         Said::Try(..)
+            | Said::TryMove(..)
             | Said::If(_)
             | Said::Until(_)
             | Said::Repeat
@@ -135,7 +137,7 @@ impl Elaboration<'_> {
     fn add(&mut self, said: Said, is_last_or: bool) -> Result<(), AllocError> {
         match said {
             Said::Lock(..)
-            | Said::Flag(..)
+            | Said::Counter(..)
             | Said::Condvar(_)
             | Said::Party(..)
             | Said::Define(..)
@@ -148,18 +150,25 @@ impl Elaboration<'_> {
                 let call = self.call(is_rwlock, step, lock);
                 self.branch(Act::Try(call))
             }
-            Said::Set(flag) => {
-                let signal = self.set(flag, true);
-                self.step(Act::Signal(signal))
+            Said::Move(_, is_up, name) => {
+                let row = self.names.counter_row(name);
+                self.step(Act::Signal(if is_up {
+                    Signal::Add(row, self.counter(name).most)
+                } else {
+                    Signal::Take(row)
+                }))
             }
-            Said::Clear(flag) => {
-                let signal = self.set(flag, false);
-                self.step(Act::Signal(signal))
+            Said::TryMove(_, is_up, name) => {
+                let row = self.names.counter_row(name);
+                self.branch(Act::Choose(if is_up {
+                    Block::TryAdd(row, self.counter(name).most)
+                } else {
+                    Block::TryTake(row)
+                }))
             }
-            Said::Assert(look) => {
-                let (row, ended) = self.ended(look);
-                self.step(Act::Signal(Signal::Assert(row, ended)))
-            }
+            Said::SetFlag(value, name) => self.set(name, usize::from(value)),
+            Said::SetCounter(value, name) => self.set(name, value),
+            Said::Assert(condition) => self.assert(condition),
             Said::NotifyOne(condvar) => {
                 self.step(Act::Signal(Signal::NotifyOne(self.condvar(condvar))))
             }
@@ -263,14 +272,37 @@ impl Elaboration<'_> {
         }
     }
 
-    /// Adds a look, which leads to the first label if the flag has the value.
+    /// Adds a look, which leads to the first label if it has its answer.
     fn look(&mut self, look: Look, yes: usize, no: usize) -> Result<(), AllocError> {
-        let (row, ended) = self.ended(look);
-        let act = Act::Choose(Block::If(row));
-        if ended {
+        let row = self.names.counter_row(look.name);
+        let act = Act::Choose(Block::AtLeast(row, look.number.unwrap_or(1)));
+        if look.value {
             self.place(act, yes, no)
         } else {
             self.place(act, no, yes)
+        }
+    }
+
+    /// Adds an assertion for each look.
+    fn assert(&mut self, condition: Condition) -> Result<(), AllocError> {
+        for (look, _) in condition.looks(self.looks) {
+            let row = self.names.counter_row(look.name);
+            let number = look.number.unwrap_or(1);
+            self.step(Act::Signal(Signal::AssertAtLeast(row, number, look.value)))?;
+        }
+        Ok(())
+    }
+
+    /// Gives a counter a value.
+    fn set(&mut self, name: usize, value: usize) -> Result<(), AllocError> {
+        let place = self.counter(name).place(value);
+        self.step(Act::Signal(Signal::Set(self.names.counter_row(name), place)))
+    }
+
+    fn counter(&self, name: usize) -> Counter {
+        match self.names.counter_of(name) {
+            Some(counter) => counter,
+            None => Counter::flag(false),
         }
     }
 
@@ -483,24 +515,6 @@ impl Elaboration<'_> {
 
     fn party(&self, name: usize) -> usize {
         self.names.parties.get_index_of(&name).unwrap_or(0)
-    }
-
-    /// Returns the row of a flag, and whether it has ended where the flag has the value. A row begins with the flag's first
-    /// value, so that of a flag that is true at first ends where the flag is false.
-    fn ended(&self, look: Look) -> (usize, bool) {
-        let flag = self.names.flags.get_index_of(&look.flag).unwrap_or(0);
-        let row = self.names.parties.len().saturating_add(flag);
-        (row, look.value != self.names.is_true_first(flag))
-    }
-
-    /// Returns the signal that gives a flag this value.
-    fn set(&self, flag: usize, value: bool) -> Signal {
-        let (row, ended) = self.ended(Look { value, flag });
-        if ended {
-            Signal::Start(row)
-        } else {
-            Signal::Clear(row)
-        }
     }
 }
 

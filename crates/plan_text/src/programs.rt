@@ -1,12 +1,13 @@
 //! The programs of a plan's rows, and the lines of their places.
 use crate::alike::{Rows, alike_rows, is_copy, rows_of};
+use crate::counter::Counter;
 use crate::origin::{LineAt, Origin};
 use crate::places::places_of;
 use crate::tree::{Group, Tree};
 use lock_plan::{Act, ProgramPlace, Signal};
 use std::alloc::{AllocError, Global};
 
-/// The programs of the rows: the parties, and then the flags. Parties of one line share a program.
+/// The programs of the rows: the parties, and then the counters. Parties of one line share a program.
 #[derive(Drop)]
 pub struct Programs {
     programs: Vec<Vec<ProgramPlace>>,
@@ -39,13 +40,19 @@ impl Programs {
             let (places, lines) = (places.places.as_slice(), places.lines.as_slice());
             self.add_parties(alloc, tree, group, places, lines)?;
         }
-        self.add_flags(alloc, tree.names.flags.len())
+        self.add_counters(alloc, tree.names.counters.as_slice())
     }
 
-    /// Adds the rows of so many flags, after those of the parties.
-    pub(crate) fn add_flags(&mut self, alloc: Global, count: usize) -> Result<(), AllocError> {
-        for _flag in 0..count {
-            let number = self.add_started(alloc, &[], &[])?;
+    /// Adds the rows of counters, after those of the parties.
+    pub(crate) fn add_counters(
+        &mut self,
+        alloc: Global,
+        counters: &[Counter],
+    ) -> Result<(), AllocError> {
+        for counter in counters {
+            let number = self.programs.len();
+            self.programs.push(values(alloc, *counter)?)?;
+            self.lines.push(Vec::new(alloc))?;
             self.numbers.push(number)?;
         }
         Ok(())
@@ -90,7 +97,7 @@ impl Programs {
         Ok(())
     }
 
-    /// Adds a program that begins where the row waits to be started: a party for its start, and a flag to be set.
+    /// Adds a program that begins where the party waits to be started.
     fn add_started(
         &mut self,
         alloc: Global,
@@ -152,10 +159,25 @@ impl Programs {
     }
 }
 
+/// Makes the program of a counter: a place for each value, from the first one upward, and then from 0.
+fn values(alloc: Global, counter: Counter) -> Result<Vec<ProgramPlace>, AllocError> {
+    let mut program = Vec::new(alloc);
+    let count = counter.values();
+    for place in 0..count {
+        let after = |steps: usize| place.saturating_add(steps).checked_rem(count).unwrap_or(0);
+        program.push(ProgramPlace {
+            act: Act::Signal(Signal::Idle(counter.value(place))),
+            next: after(1),
+            other: after(counter.most),
+        })?;
+    }
+    Ok(program)
+}
+
 /// Makes the program of a party that is started, with these places after the one where it waits for its start.
 fn started(alloc: Global, places: &[ProgramPlace]) -> Result<Vec<ProgramPlace>, AllocError> {
     let idle = ProgramPlace {
-        act: Act::Signal(Signal::Idle),
+        act: Act::Signal(Signal::Idle(0)),
         next: 1,
         other: 1,
     };

@@ -1,7 +1,8 @@
 //! Reading a line.
+use crate::counter::{Counter, CounterKind};
 use crate::forms::Role;
 use crate::line::Written;
-use crate::rows::count;
+use crate::rows::{MOST, count};
 use crate::said::{Condition, Join, Look, Looks, Parties, Said, WaitLine};
 use crate::words::Words;
 use lock_modes::{Kind, LockStep, Mode, ModeStep};
@@ -28,6 +29,7 @@ pub(crate) fn read(
     match form.2 {
         Role::Wait => wait(words, looks, rest),
         Role::If => Ok(condition(words, looks, rest)?.map(Said::If)),
+        Role::Assert => assert(words, looks, rest),
         Role::Repeat => repeat(words, looks, rest),
         role => Ok(plain(words, role, rest, written)),
     }
@@ -37,17 +39,18 @@ pub(crate) fn read(
 fn plain(words: &Words, role: Role, rest: &[usize], written: Written) -> Option<Said> {
     let said = match role {
         Role::Lock(kind) => return lock(words, kind, rest),
-        Role::Flag => return flag(words, rest),
+        Role::Counter(CounterKind::Flag) => return flag(words, rest),
+        Role::Counter(kind) => return counter(words, kind, rest),
         Role::Party(is_server) => return party(words, is_server, rest),
-        Role::Assert => Said::Assert(look(words, rest)?),
         Role::Try => return tried(words, rest),
         Role::Define => return define(words, rest),
         Role::Invoke => return invoke(words, rest, written),
         Role::Pick => return pick(words, rest, written),
         Role::Condvar => Said::Condvar(name(words, rest)?),
         Role::Call(is_rwlock, step) => Said::Call(is_rwlock, step, name(words, rest)?),
-        Role::Set => Said::Set(name(words, rest)?),
-        Role::Clear => Said::Clear(name(words, rest)?),
+        Role::Move(kind, is_up) => Said::Move(kind, is_up, name(words, rest)?),
+        Role::Set => return set(words, rest),
+        Role::Clear => Said::SetFlag(false, name(words, rest)?),
         Role::NotifyOne => Said::NotifyOne(name(words, rest)?),
         Role::NotifyAll => Said::NotifyAll(name(words, rest)?),
         Role::Start => Said::Start(name(words, rest)?),
@@ -133,12 +136,68 @@ pub(crate) fn begins_by_digit(text: &str) -> bool {
 
 fn flag(words: &Words, fields: &[usize]) -> Option<Said> {
     match fields {
-        [name] => Some(Said::Flag(false, name_in(words, *name)?)),
-        [name, value] if words.is(*value, "true") => {
-            Some(Said::Flag(true, name_in(words, *name)?))
-        }
+        [name] => Some(Said::Counter(Counter::flag(false), name_in(words, *name)?)),
+        [name, value] if words.is(*value, "true") => Some(Said::Counter(
+            Counter::flag(true),
+            name_in(words, *name)?,
+        )),
         _ => None,
     }
+}
+
+/// Reads a counter, a semaphore or a channel.
+fn counter(words: &Words, kind: CounterKind, fields: &[usize]) -> Option<Said> {
+    let [name, most, rest @ ..] = fields else {
+        return None;
+    };
+    let number = number(words.text(*most))?;
+    let (most, first) = match (kind, rest) {
+        (CounterKind::Semaphore, []) => (number, number),
+        (CounterKind::Semaphore, [most]) => (self::number(words.text(*most))?, number),
+        (_, []) => (number, 0),
+        (CounterKind::Counter, [is, first]) if words.is(*is, "=") => {
+            (number, self::number(words.text(*first))?)
+        }
+        _ => return None,
+    };
+    if most < 1 || first > most {
+        return None;
+    }
+    Some(Said::Counter(Counter { kind, most, first }, name_in(words, *name)?))
+}
+
+/// Reads a number of at most [`MOST`].
+pub(crate) fn number(field: &str) -> Option<usize> {
+    let number = unsigned(field).filter(|number| *number <= MOST)?;
+    usize::try_from(number).ok()
+}
+
+/// Reads what makes a flag true, or gives a counter a value.
+fn set(words: &Words, fields: &[usize]) -> Option<Said> {
+    match fields {
+        [name] => Some(Said::SetFlag(true, name_in(words, *name)?)),
+        [name, value] => Some(Said::SetCounter(
+            number(words.text(*value))?,
+            name_in(words, *name)?,
+        )),
+        _ => None,
+    }
+}
+
+/// Reads looks with `and` between them.
+fn assert(words: &Words, looks: &mut Looks, fields: &[usize]) -> Result<Option<Said>, AllocError> {
+    let Some(condition) = condition(words, looks, fields)? else {
+        return Ok(None);
+    };
+    let has_or = condition
+        .looks(looks.as_slice())
+        .iter()
+        .any(|(_, join)| *join == Join::Or);
+    Ok(if has_or {
+        None
+    } else {
+        Some(Said::Assert(condition))
+    })
 }
 
 fn party(words: &Words, is_server: bool, fields: &[usize]) -> Option<Said> {
@@ -162,6 +221,9 @@ fn tried(words: &Words, fields: &[usize]) -> Option<Said> {
     let [call, name] = fields else {
         return None;
     };
+    if let Role::Move(kind, is_up) = words.form(*call)?.2 {
+        return Some(Said::TryMove(kind, is_up, name_in(words, *name)?));
+    }
     let (is_rwlock, step) = tried_call(words, *call)?;
     Some(Said::Try(is_rwlock, step, name_in(words, *name)?))
 }
@@ -294,10 +356,17 @@ fn condition(
     }
     let mut rest = fields;
     for _look in 0..fields.len() {
-        let Some((look, join, after)) = next_look(words, rest) else {
+        let Some((found, join, after)) = next_looks(words, rest) else {
             break;
         };
-        looks.push((look, join))?;
+        let (look, upper) = found;
+        match upper {
+            None => looks.push((look, join))?,
+            Some(upper) => {
+                looks.push((look, Join::And))?;
+                looks.push((upper, join))?;
+            }
+        }
         if join == Join::Last {
             let end = looks.len();
             return Ok(Some(Condition { first, end }));
@@ -308,23 +377,65 @@ fn condition(
     Ok(None)
 }
 
+/// A look, and another one that is to be so too.
+type OneOrTwo = (Look, Option<Look>);
+
 /// Reads one of several looks, and returns what comes after it, and the fields behind that.
-fn next_look<'a>(words: &Words, fields: &'a [usize]) -> Option<(Look, Join, &'a [usize])> {
-    let (value, flag, rest) = match fields {
-        [not, flag, rest @ ..] if words.is(*not, "not") => (false, *flag, rest),
-        [flag, rest @ ..] => (true, *flag, rest),
+fn next_looks<'a>(words: &Words, fields: &'a [usize]) -> Option<(OneOrTwo, Join, &'a [usize])> {
+    let (found, rest) = match fields {
+        [name, how, number, rest @ ..] if is_comparison(words, *how) => {
+            (comparison(words, *name, *how, *number)?, rest)
+        }
+        [not, flag, rest @ ..] if words.is(*not, "not") => {
+            ((flag_look(words, false, *flag)?, None), rest)
+        }
+        [flag, rest @ ..] => ((flag_look(words, true, *flag)?, None), rest),
         [] => return None,
     };
-    if !words.is_flag_name(flag) {
-        return None;
-    }
     let (join, rest) = match rest {
         [] => (Join::Last, rest),
         [word, rest @ ..] if words.is(*word, "and") => (Join::And, rest),
         [word, rest @ ..] if words.is(*word, "or") => (Join::Or, rest),
         _ => return None,
     };
-    Some((Look { value, flag }, join, rest))
+    Some((found, join, rest))
+}
+
+fn is_comparison(words: &Words, word: usize) -> bool {
+    matches!(words.text(word), ">=" | "<" | "=")
+}
+
+/// Reads a comparison of a counter with a number. An equal one is at least the number, and not at least the next one.
+fn comparison(words: &Words, name: usize, how: usize, number: usize) -> Option<OneOrTwo> {
+    if !words.is_flag_name(name) {
+        return None;
+    }
+    let number = self::number(words.text(number))?;
+    let at_least = |value: bool, number: usize| Look {
+        value,
+        name,
+        number: Some(number),
+    };
+    Some(match words.text(how) {
+        ">=" => (at_least(true, number), None),
+        "<" => (at_least(false, number), None),
+        _ => (
+            at_least(true, number),
+            Some(at_least(false, number.saturating_add(1))),
+        ),
+    })
+}
+
+/// Makes a look at a flag, unless it has the name of a word of a condition.
+fn flag_look(words: &Words, value: bool, name: usize) -> Option<Look> {
+    if !words.is_flag_name(name) {
+        return None;
+    }
+    Some(Look {
+        value,
+        name,
+        number: None,
+    })
 }
 
 /// Reads a flag, or `not` and a flag.
@@ -336,6 +447,7 @@ fn look(words: &Words, fields: &[usize]) -> Option<Look> {
     };
     Some(Look {
         value,
-        flag: name_in(words, flag)?,
+        name: name_in(words, flag)?,
+        number: None,
     })
 }

@@ -46,7 +46,7 @@ fn row(alloc: Global, text: &Text, line: Line) -> Result<Option<(usize, String, 
     };
     let is_declared = matches!(
         text.words.form(*word),
-        Some(form) if matches!(form.2, Role::Lock(_) | Role::Flag | Role::Condvar)
+        Some(form) if matches!(form.2, Role::Lock(_) | Role::Counter(_) | Role::Condvar)
     );
     if !is_declared {
         return Ok(None);

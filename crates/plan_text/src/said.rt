@@ -1,4 +1,5 @@
 //! What lines say. Names are the numbers of words.
+use crate::counter::{Counter, CounterKind};
 use crate::line::Written;
 use lock_modes::LockStep;
 use lock_plan::PlanLock;
@@ -7,17 +8,20 @@ use lock_plan::PlanLock;
 #[derive(Clone, Copy)]
 pub(crate) enum Said {
     Lock(PlanLock, usize),
-    /// A flag, and whether it is true at first.
-    Flag(bool, usize),
+    Counter(Counter, usize),
     Condvar(usize),
     /// Parties, and whether they are servers.
     Party(bool, Parties, usize),
     /// A call, and whether its word is one for reader-writer locks.
     Call(bool, LockStep, usize),
     Try(bool, LockStep, usize),
-    Set(usize),
-    Clear(usize),
-    Assert(Look),
+    /// Moves a counter of this kind up, or down.
+    Move(CounterKind, bool, usize),
+    TryMove(CounterKind, bool, usize),
+    /// Gives a flag this value.
+    SetFlag(bool, usize),
+    SetCounter(usize, usize),
+    Assert(Condition),
     NotifyOne(usize),
     NotifyAll(usize),
     Start(usize),
@@ -50,11 +54,12 @@ pub(crate) enum Parties {
     Any,
 }
 
-/// A flag, and the value that it is to have.
+/// A look at whether a flag is true, or whether a counter is at least at this number, and the answer that it is to have.
 #[derive(Clone, Copy)]
 pub(crate) struct Look {
     pub(crate) value: bool,
-    pub(crate) flag: usize,
+    pub(crate) name: usize,
+    pub(crate) number: Option<usize>,
 }
 
 /// What is between a look of a condition and the next one.

@@ -1,4 +1,5 @@
 //! The tree of a text: what it declares, and the lines of its parties.
+use crate::counter::CounterKind;
 use crate::forms::{Form, Role};
 use crate::line::{Line, Written};
 use crate::line_fault::{LineFault, NameKind, Refusal};
@@ -98,7 +99,7 @@ impl Tree {
                 self.open.begin(OpenPart::Function, form.0, line.number)
             }
             Said::End if self.open.has_function() => self.open.end(),
-            Said::Lock(..) | Said::Flag(..) | Said::Condvar(_) => {
+            Said::Lock(..) | Said::Counter(..) | Said::Condvar(_) => {
                 self.outside_blocks(word)?;
                 self.declare(said)
             }
@@ -198,9 +199,12 @@ impl Tree {
                 add_name(&mut self.names.locks, NameKind::Lock, name)?;
                 add(&mut self.locks, lock)?;
             }
-            Said::Flag(value, name) => {
-                add_name(&mut self.names.flags, NameKind::Flag, name)?;
-                add(&mut self.names.first_values, value)?;
+            Said::Counter(counter, name) => {
+                if !is_new(&mut self.names.counter_names, name)? {
+                    let kind = self.names.counter_of(name).unwrap_or(counter).kind;
+                    return Err(Refusal::Bad(LineFault::Taken(NameKind::Counter(kind), name)));
+                }
+                add(&mut self.names.counters, counter)?;
             }
             Said::Condvar(name) => {
                 add_name(&mut self.names.condvars, NameKind::Condvar, name)?;
@@ -277,18 +281,23 @@ impl Tree {
     fn known_names(&self, said: Said) -> Result<(), Refusal> {
         match said {
             Said::Call(_, _, lock) | Said::Try(_, _, lock) => self.known(NameKind::Lock, lock),
-            Said::Set(flag) | Said::Clear(flag) => self.known(NameKind::Flag, flag),
-            Said::Assert(look) => self.known(NameKind::Flag, look.flag),
+            Said::SetFlag(_, flag) => self.known_counter(CounterKind::Flag, flag),
+            Said::Move(kind, _, name) | Said::TryMove(kind, _, name) => {
+                self.known_counter(kind, name)
+            }
+            Said::SetCounter(value, name) => self.known_number(name, value),
             Said::NotifyOne(condvar) | Said::NotifyAll(condvar) => {
                 self.known(NameKind::Condvar, condvar)
             }
-            Said::If(condition) | Said::Until(condition) => self.known_flags(condition),
+            Said::If(condition) | Said::Until(condition) | Said::Assert(condition) => {
+                self.known_looks(condition)
+            }
             Said::Invoke(name, _, _) => self.known(NameKind::Function, name),
             Said::Wait(wait) => {
                 self.known(NameKind::Condvar, wait.condvar)?;
                 self.known(NameKind::Lock, wait.mutex)?;
                 match wait.until {
-                    Some(condition) => self.known_flags(condition),
+                    Some(condition) => self.known_looks(condition),
                     None => Ok(()),
                 }
             }
@@ -296,11 +305,38 @@ impl Tree {
         }
     }
 
-    fn known_flags(&self, condition: Condition) -> Result<(), Refusal> {
+    fn known_looks(&self, condition: Condition) -> Result<(), Refusal> {
         for (look, _) in condition.looks(self.looks.as_slice()) {
-            self.known(NameKind::Flag, look.flag)?;
+            match look.number {
+                None => self.known_counter(CounterKind::Flag, look.name)?,
+                // Of an equal number, the second look is at the number after it.
+                Some(number) if look.value => self.known_number(look.name, number)?,
+                Some(number) => self.known_number(look.name, number.saturating_sub(1))?,
+            }
         }
         Ok(())
+    }
+
+    /// Refuses a name that no counter of this kind has.
+    fn known_counter(&self, kind: CounterKind, name: usize) -> Result<(), Refusal> {
+        match self.names.counter_of(name) {
+            Some(counter) if counter.kind == kind => Ok(()),
+            _ => Err(Refusal::Bad(LineFault::Unknown(NameKind::Counter(kind), name))),
+        }
+    }
+
+    /// Refuses a number that a counter never has, and a flag.
+    fn known_number(&self, name: usize, number: usize) -> Result<(), Refusal> {
+        match self.names.counter_of(name) {
+            Some(counter) if counter.kind != CounterKind::Flag && number <= counter.most => Ok(()),
+            Some(counter) if counter.kind != CounterKind::Flag => {
+                Err(Refusal::Bad(LineFault::TooHigh(name, counter.most)))
+            }
+            _ => Err(Refusal::Bad(LineFault::Unknown(
+                NameKind::Counter(CounterKind::Counter),
+                name,
+            ))),
+        }
     }
 
     /// Refuses a call of a known function and a pick that are not written out.
@@ -323,7 +359,7 @@ impl Tree {
     fn known(&self, kind: NameKind, name: usize) -> Result<(), Refusal> {
         let names = match kind {
             NameKind::Lock => &self.names.locks,
-            NameKind::Flag => &self.names.flags,
+            NameKind::Counter(_) => &self.names.counter_names,
             NameKind::Condvar => &self.names.condvars,
             NameKind::Party => &self.names.parties,
             NameKind::Function => &self.functions,
@@ -383,7 +419,7 @@ impl Tree {
     /// Turns to the blocks that are open after a line of a party.
     fn turn_blocks(&mut self, line: LineAt, form: Form, said: Said) -> Result<(), Refusal> {
         let begun = match said {
-            Said::Try(..) | Said::If(_) => OpenPart::First,
+            Said::Try(..) | Said::TryMove(..) | Said::If(_) => OpenPart::First,
             Said::Repeat | Said::Forever | Said::Until(_) => OpenPart::Loop,
             Said::Either | Said::Pick(_, Written::Block) => OpenPart::Either,
             Said::Invoke(..) => OpenPart::Call,

@@ -49,7 +49,7 @@ fn write_step_cell(
 
 /// Returns whether a party with this act idles.
 fn idles(act: Option<Act>) -> bool {
-    matches!(act, Some(Act::Signal(Signal::Idle)))
+    matches!(act, Some(Act::Signal(Signal::Idle(_))))
 }
 
 /// Appends what a party holds; a dot for nothing, or a dash where it idles.
@@ -107,7 +107,14 @@ fn write_arrow(text: &mut String, names: &Names, act: Option<Act>) -> Result<(),
     let awaited = match act {
         Some(Act::Call(call)) => names.lock(call.lock),
         Some(Act::Signal(Signal::Sleep(cond))) => names.condvar(cond),
-        Some(Act::Signal(Signal::Join(row) | Signal::Assert(row, _))) => names.row(row),
+        Some(
+            Act::Signal(
+                Signal::Join(row)
+                | Signal::Add(row, _)
+                | Signal::Take(row)
+                | Signal::AssertAtLeast(row, _, _),
+            ),
+        ) => names.row(row),
         _ => return text.push('.'),
     };
     write!(text, "-> {awaited}")

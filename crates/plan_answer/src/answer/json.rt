@@ -108,7 +108,11 @@ fn write_callers(text: &mut String, origin: Origin) -> Result<(), AllocError> {
         is_later = true;
         here = caller;
     }
-    if is_later { text.push_str("],") } else { Ok(()) }
+    if is_later {
+        text.push_str("],")
+    } else {
+        Ok(())
+    }
 }
 
 /// Appends the begin of an object: the line of a row at a node, and its party.

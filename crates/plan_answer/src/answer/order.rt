@@ -65,7 +65,9 @@ fn write_obstacle(
                 "line {line}: an order covers no upgrade, announcement or signal"
             )
         }
-        Obstacle::Uncovered(..) => text.push_str("an order covers no flag\n"),
+        Obstacle::Uncovered(row, _) => {
+            writeln!(text, "an order covers no {}", names.kind_word(row))
+        }
         Obstacle::Ends(party, lock) => {
             let (party, lock) = (names.party(party), names.lock(lock));
             writeln!(text, "{party} ends while it holds {lock}")

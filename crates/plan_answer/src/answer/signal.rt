@@ -3,7 +3,7 @@
 use crate::answer::source::Source;
 use crate::answer::stand::sleep_of;
 use lock_plan::{Block, Signal};
-use plan_text::Names;
+use plan_text::{Names, write_look};
 use std::alloc::{AllocError, Global};
 
 /// Appends a choice of the first way or the other one.
@@ -16,12 +16,37 @@ pub(crate) fn write_choice(
     match block {
         Block::Repeat => write!(text, "repeat{}", turn_text(other)),
         Block::Either => write!(text, "either{}", turn_text(other)),
-        Block::If(row) => {
-            let value = value_text(names.value(row, !other));
-            write!(text, "if {}{value}", names.row(row))
+        Block::AtLeast(row, number) => {
+            text.push_str("if ")?;
+            write_look(text, names, (row, number), true)?;
+            text.push_str(value_text(!other))
         }
+        Block::TryAdd(row, _) => write_try(text, names, (row, true), other),
+        Block::TryTake(row) => write_try(text, names, (row, false), other),
         Block::TimedSleep(cond) => { write!(text, "timeout {}", names.condvar(cond)) }
     }
+}
+
+/// Appends a try that moves a counter up or down.
+fn write_try(
+    text: &mut String,
+    names: &Names,
+    moved: (usize, bool),
+    other: bool,
+) -> Result<(), AllocError> {
+    text.push_str("try ")?;
+    write_move(text, names, moved)?;
+    text.push_str(if other { ": refused" } else { ": admitted" })
+}
+
+/// Appends what moves a counter up or down: the word of its kind, and its name.
+pub(crate) fn write_move(
+    text: &mut String,
+    names: &Names,
+    moved: (usize, bool),
+) -> Result<(), AllocError> {
+    let (row, is_up) = moved;
+    write!(text, "{} {}", names.move_word(row, is_up), names.row(row))
 }
 
 fn value_text(value: bool) -> &'static str {
@@ -41,19 +66,15 @@ pub(crate) fn write_signal(
     signal: Signal,
 ) -> Result<(), AllocError> {
     match signal {
-        Signal::Idle | Signal::Sleep(_) => Ok(()),
-        Signal::Start(row) => write!(
-            text,
-            "{}{}",
-            start_word(source.names, row),
-            source.names.row(row)
-        ),
-        Signal::Clear(row) => {
-            let word = set_word(source.names.value(row, false));
-            write!(text, "{word}{}", source.names.row(row))
-        }
+        Signal::Idle(_) | Signal::Sleep(_) => Ok(()),
+        Signal::Start(row) => write!(text, "start {}", source.names.row(row)),
         Signal::Join(row) => write!(text, "join {}", source.names.row(row)),
-        Signal::Assert(row, ended) => write_assert(text, source.names, row, ended),
+        Signal::Add(row, _) => write_move(text, source.names, (row, true)),
+        Signal::Take(row) => write_move(text, source.names, (row, false)),
+        Signal::Set(row, place) => write_set(text, source.names, row, place),
+        Signal::AssertAtLeast(row, number, value) => {
+            write_assert(text, source.names, (row, number), value)
+        }
         Signal::NotifyOne(cond) => {
             let rows = woken(source.alloc, way)?;
             write_notice(text, "notify_one ", source.names, cond, rows.as_slice())
@@ -65,31 +86,25 @@ pub(crate) fn write_signal(
     }
 }
 
-/// Returns the word for the start of a row: a party, or a flag that gets another value.
-fn start_word(names: &Names, row: usize) -> &'static str {
-    if names.is_party(row) {
-        return "start ";
+/// Appends what gives a counter the value of a place of its program.
+fn write_set(text: &mut String, names: &Names, row: usize, place: usize) -> Result<(), AllocError> {
+    let (name, value) = (names.row(row), names.value(row, place));
+    match (names.is_flag(row), value) {
+        (true, 0) => write!(text, "clear {name}"),
+        (true, _) => write!(text, "set {name}"),
+        (false, value) => write!(text, "set {name} {value}"),
     }
-    set_word(names.value(row, true))
 }
 
-fn set_word(value: bool) -> &'static str {
-    if value { "set " } else { "clear " }
-}
-
-/// Appends an assertion of a flag, by whether its row is to have ended.
+/// Appends an assertion that a row is at this number or above, or that it is not.
 pub(crate) fn write_assert(
     text: &mut String,
     names: &Names,
-    row: usize,
-    ended: bool,
+    look: (usize, usize),
+    value: bool,
 ) -> Result<(), AllocError> {
-    let word = assert_word(names.value(row, ended));
-    write!(text, "{word}{}", names.row(row))
-}
-
-fn assert_word(value: bool) -> &'static str {
-    if value { "assert " } else { "assert not " }
+    text.push_str("assert ")?;
+    write_look(text, names, look, value)
 }
 
 /// Returns the row that a notification of one wakes if it goes this way.

@@ -2,7 +2,7 @@
 
 use crate::answer::line_mark::write_mark;
 use crate::answer::mark::{Marked, Style, add_marks, write_marks};
-use crate::answer::signal::write_assert;
+use crate::answer::signal::{write_assert, write_move};
 use crate::answer::source::Source;
 use crate::answer::step::{lock_at, write_call};
 use lock_modes::{LockStep, Mode, ModeStep};
@@ -73,7 +73,7 @@ fn says(is_refused: bool) -> &'static str {
     }
 }
 
-/// Appends what a party with this act waits for: its call, a notification, or the end of a row; or what it asserts.
+/// Appends what a party with this act waits for: its call, a notification, a counter, or the end of a row; or what it asserts.
 pub(crate) fn write_awaited(
     text: &mut String,
     source: &Source,
@@ -85,7 +85,11 @@ pub(crate) fn write_awaited(
             write!(text, "notify {}", source.names.condvar(cond))
         }
         Act::Signal(Signal::Join(row)) => write!(text, "join {}", source.names.row(row)),
-        Act::Signal(Signal::Assert(row, ended)) => write_assert(text, source.names, row, ended),
+        Act::Signal(Signal::AssertAtLeast(row, number, value)) => {
+            write_assert(text, source.names, (row, number), value)
+        }
+        Act::Signal(Signal::Add(row, _)) => write_move(text, source.names, (row, true)),
+        Act::Signal(Signal::Take(row)) => write_move(text, source.names, (row, false)),
         Act::Signal(_) | Act::Try(_) | Act::Choose(_) => Ok(()),
     }
 }
