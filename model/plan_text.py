@@ -36,6 +36,17 @@ ACQUISITIONS = {"lock", "read", "write", "upgradable_read"}
 TRIED = {*ACQUISITIONS, "upgrade"}
 # other words of calls
 SAME_CALLS = {"unlock_upgradable_read": "unlock_upgradable"}
+# the lines for which those of barriers and latches, and the calls of these, stand: `@` is the name and `#` the number
+GATES = {
+    "barrier": ["mutex @", "counter @ #", "flag @.turn", "condvar @"],
+    "latch": ["mutex @", "counter @ # = #", "condvar @"],
+    "await barrier": [
+        "lock @", "add @", "if @ >= #", "set @ 0", "if @.turn", "clear @.turn", "else", "set @.turn", "end", "notify_all @",
+        "else", "if @.turn", "wait @ @ until not @.turn", "else", "wait @ @ until @.turn", "end", "end", "unlock @",
+    ],
+    "await latch": ["lock @", "wait @ @ until @ < 1", "unlock @"],
+    "count_down latch": ["lock @", "try take @", "end", "notify_all @", "unlock @"],
+}
 # lines of one word, each of a block
 BLOCK_WORDS = {"repeat", "forever", "either", "else", "or", "end", "leave", "return"}
 # words of a text with which a block begins, lines with which one begins, and those of them to which a party comes back at its end
@@ -206,7 +217,7 @@ def fault_of(number, why):
 
 def expanded(lines):
     """The lines, each a number and its words, with those that are short for several expanded."""
-    found = for_copies([it for line in with_functions(lines) for it in rows(*line)])
+    found = for_copies([it for line in with_gates(with_functions(lines)) for it in rows(*line)])
     heads = [at for at, (_, words) in enumerate(found) if words[0] in ("party", "server")]
     parts = [found[begin:end] for begin, end in itertools.pairwise([*heads, len(found)])]
     found = [*found[: heads[0] if heads else None], *[it for part in parts for it in by_index(part)]]
@@ -264,6 +275,21 @@ def called(functions, number, words, above):
     arguments = dict(zip(parameters, words[2:]))
     inside = [(f"{line} from {number}", replaced(it, arguments)) for line, it in body]
     return [(number, [Block("call"), *words[1:]]), *(it for line in inside for it in called(functions, *line, which)), (number, ["end"])]
+
+
+def with_gates(lines):
+    """The lines, with those for which barriers, latches and their calls stand in the place of these."""
+    gates, found = {}, []
+    for number, words in lines:
+        word, name, most, *rest = [*words, "", ""]
+        which = word if word in ("barrier", "latch") and len(words) == 3 and NAME.fullmatch(name) and whole_of(most) > 0 else ""
+        if which:
+            gates.setdefault(name, (word, most))
+        elif name in gates and len(words) == 2:
+            which, most = f"{word} {gates[name][0]}", gates[name][1]
+        made = [(number, it.replace("#", most).replace("@", name).split()) for it in GATES.get(which, [])]
+        found += made or [(number, words)]
+    return found
 
 
 def with_picks(lines, locks):

@@ -34,7 +34,7 @@ STRAY_SIGNALS = [
     "set flag0", "if flag0", "if not flag0", "wait cond0 lock0", "start p1", "join p9", "notify_all cond0", "assert flag0", "repeat until flag0",
     "wait cond0 lock0 until flag0 or timeout", "start p2 *", "join p1 *",
     "repeat until flag0 or not flag1", "wait cond0 lock0 until flag0 or flag1 or timeout", "if flag0 and not flag1 or flag1",
-    "add count0", "acquire count0", "try send count0", "set count0 1", "set flag0 1", "if count0 >= 1", "assert count0 < 1", "assert flag0 or flag1", "if flag0 = 1",
+    "await gate0", "count_down gate0", "await count0", "barrier lock0 2", "latch gate1 x", "add count0", "acquire count0", "try send count0", "set count0 1", "set flag0 1", "if count0 >= 1", "assert count0 < 1", "assert flag0 or flag1", "if flag0 = 1",
 ]
 ACQUISITIONS = [("read", "shared"), ("read", "shared"), ("write", "exclusive"), ("upgradable_read", "upgradable")]
 ANY_CALL = ["lock", "announce", *(word for word, _ in ACQUISITIONS)]
@@ -116,7 +116,9 @@ def random_signals(rng, lines, kinds, heads):
     parties = [name for _, names in heads for name in names]
     unstarted = {it for it in parties if rng.random() < 0.4}
     unstarted |= {name for _, names in heads if len(names) > 1 and rng.random() < 0.3 for name in names}
-    return Signals(flags, counters, condvars, parties, unstarted)
+    gates = {f"gate{it}": rng.choice(["barrier", "latch"]) for it in range(rng.choice([0, 0, 0, 1]))}
+    lines += [f"{kind} {it} {rng.choice([1, 2, 2])}" for it, kind in gates.items()]
+    return Signals(flags, counters, gates, condvars, parties, unstarted)
 
 
 def counter_line(rng, name, kind):
@@ -241,10 +243,11 @@ def lock_line(rng, name, kind, limit):
 
 
 class Signals(NamedTuple):
-    """The flags, counters, condition variables and parties of a plan, and which parties still want a line that starts them."""
+    """The flags, counters, barriers and latches, condition variables and parties of a plan, and which parties still want a line that starts them."""
 
     flags: list
     counters: dict
+    gates: dict
     condvars: list
     parties: list
     unstarted: set
@@ -352,6 +355,7 @@ class Maker(NamedTuple):
             moves = [word for word, (kind, _) in MOVES.items() if kind == signals.counters[name] or rng.random() < 0.01]
             found += [f"{rng.choice(moves)} {name}", f"{rng.choice(moves)} {name}", f"set {name} {rng.choice([0, 1])}"]
             found += [f"assert {look(rng, signals)}{rng.choice(['', '', f' and {look(rng, signals)}'])}"] if rng.random() < 0.4 else []
+        found += [f"{rng.choice(['await', 'count_down'] if kind == 'latch' or rng.random() < 0.05 else ['await'])} {it}" for it, kind in signals.gates.items()]
         if signals.condvars:
             condvar = rng.choice(signals.condvars)
             found += [f"notify_{rng.choice(['one', 'all'])} {condvar}"]

@@ -143,6 +143,7 @@ pub(crate) fn word_of(words: &Words, fields: &[usize], fault: LineFault) -> usiz
         | LineFault::Arguments(word, _)
         | LineFault::NotAbove(word)
         | LineFault::TooHigh(word, _)
+        | LineFault::NoGate(_, word)
         | LineFault::StartedTwice(word) => after(fields, 1, word),
         LineFault::NoChoice(word) => after(fields, 3, word),
         LineFault::NotUtf8 => fields

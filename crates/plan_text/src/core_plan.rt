@@ -132,7 +132,7 @@ fn recover(
         return Ok(());
     };
     match form.2 {
-        Role::Lock(_) | Role::Counter(_) | Role::Condvar => {
+        Role::Lock(_) | Role::Counter(_) | Role::Condvar | Role::Barrier | Role::Latch => {
             if let [_, name, ..] = fields {
                 bad.misdeclare(*name)?;
             }

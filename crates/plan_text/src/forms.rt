@@ -17,6 +17,8 @@ pub(crate) enum Role {
     /// A flag, a counter, a semaphore or a channel.
     Counter(CounterKind),
     Condvar,
+    Barrier,
+    Latch,
     /// Begins parties, and whether they are servers.
     Party(bool),
     /// Begins a function.
@@ -31,6 +33,8 @@ pub(crate) enum Role {
     Clear,
     Assert,
     Wait,
+    Await,
+    CountDown,
     NotifyOne,
     NotifyAll,
     Start,
@@ -49,7 +53,7 @@ pub(crate) enum Role {
 }
 
 /// All words that lines begin with. A word's number in [`Words`](crate::words::Words) is its place here.
-pub(crate) static FORMS: [Form; 52] = [
+pub(crate) static FORMS: [Form; 56] = [
     Form("mutex", "NAME [fair]", Role::Lock(Kind::Mutex)),
     Form(
         "rwlock",
@@ -198,4 +202,8 @@ pub(crate) static FORMS: [Form; 52] = [
         "CHANNEL",
         Role::Move(CounterKind::Channel, false),
     ),
+    Form("barrier", "NAME PARTIES", Role::Barrier),
+    Form("latch", "NAME COUNT", Role::Latch),
+    Form("await", "BARRIER | LATCH", Role::Await),
+    Form("count_down", "LATCH", Role::CountDown),
 ];

@@ -16,6 +16,7 @@ mod counter;
 mod fault;
 mod forms;
 mod functions;
+mod gates;
 mod indexed;
 mod line;
 mod line_fault;

@@ -52,6 +52,8 @@ pub(crate) enum LineFault {
     Arguments(usize, usize),
     /// A function calls this one, which is not above it.
     NotAbove(usize),
+    /// No latch, or else no barrier or latch, has the name.
+    NoGate(bool, usize),
     /// No lock is in the row, or only the one that is left out.
     NoChoice(usize),
     /// A party has the name of a copy.
@@ -206,6 +208,8 @@ impl fmt::Display for Why<'_> {
                 "function '{}' is not above the function that calls it",
                 text(name)
             ),
+            LineFault::NoGate(true, name) => write!(f, "no latch '{}'", text(name)),
+            LineFault::NoGate(false, name) => { write!(f, "no barrier or latch '{}'", text(name)) }
             LineFault::NoChoice(row) => write!(f, "no lock to pick in row '{}'", text(row)),
             LineFault::TakenCopy(name) => write!(
                 f,

@@ -1,6 +1,7 @@
 //! Lines that are short for several, written out.
 use crate::fault::TextFault;
 use crate::functions::written_out;
+use crate::gates::with_gates;
 use crate::indexed::indexed;
 use crate::line::{Line, Text};
 use crate::picks::picked;
@@ -37,7 +38,7 @@ impl LineList {
     }
 }
 
-/// Writes out the lines that are short for several: calls of functions, rows, lines for all copies, parties with an index, picks,
+/// Writes out the lines that are short for several: calls of functions, barriers and latches, rows, lines for all copies, parties with an index, picks,
 /// and repeated lines.
 pub(crate) fn expand(
     alloc: Global,
@@ -45,7 +46,8 @@ pub(crate) fn expand(
     written: &[Line],
 ) -> Result<Vec<Line>, TextFault> {
     let called = written_out(alloc, text, written)?;
-    let each = rows(alloc, text, called.as_slice())?;
+    let gated = with_gates(alloc, text, called.as_slice())?;
+    let each = rows(alloc, text, gated.as_slice())?;
     let copies = spread(alloc, text, each.as_slice())?;
     let parties = indexed(alloc, text, copies.as_slice())?;
     let picked = picked(alloc, text, parties.as_slice())?;

@@ -64,7 +64,8 @@ fn wrong_field(words: &Words, word: usize, role: Role, fields: &[usize]) -> Opti
     };
     let (name, last) = (*name, last);
     match role {
-        Role::Lock(_) | Role::Counter(_) | Role::Condvar if !words.is_name(name) => {
+        Role::Lock(_) | Role::Counter(_) | Role::Condvar | Role::Barrier | Role::Latch
+            if !words.is_name(name) => {
             Some(if has_bracket(words, name) {
                 LineFault::NoRow(name)
             } else {
@@ -81,7 +82,7 @@ fn wrong_field(words: &Words, word: usize, role: Role, fields: &[usize]) -> Opti
             (!is_right).then_some(LineFault::NoLimit(word))
         }
         Role::Counter(CounterKind::Flag) | Role::Condvar => None,
-        Role::Counter(_) => {
+        Role::Counter(_) | Role::Barrier | Role::Latch => {
             let is_right = match last {
                 [] => false,
                 [most, ..] => number(words.text(*most)).is_some(),

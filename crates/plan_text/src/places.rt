@@ -139,6 +139,7 @@ impl Elaboration<'_> {
             Said::Lock(..)
             | Said::Counter(..)
             | Said::Condvar(_)
+            | Said::Unlatched(..)
             | Said::Party(..)
             | Said::Define(..)
             | Said::Pick(_, Written::No | Written::Inline) => Ok(()),

@@ -48,6 +48,8 @@ fn plain(words: &Words, role: Role, rest: &[usize], written: Written) -> Option<
         Role::Pick => return pick(words, rest, written),
         Role::Condvar => Said::Condvar(name(words, rest)?),
         Role::Call(is_rwlock, step) => Said::Call(is_rwlock, step, name(words, rest)?),
+        Role::Await => Said::Unlatched(false, name(words, rest)?),
+        Role::CountDown => Said::Unlatched(true, name(words, rest)?),
         Role::Move(kind, is_up) => Said::Move(kind, is_up, name(words, rest)?),
         Role::Set => return set(words, rest),
         Role::Clear => Said::SetFlag(false, name(words, rest)?),

@@ -27,6 +27,8 @@ pub(crate) enum Said {
     Start(usize),
     Join(usize),
     Wait(WaitLine),
+    /// A call of a latch, or else of a barrier or a latch, which is not there.
+    Unlatched(bool, usize),
     If(Condition),
     Until(Condition),
     /// Begins a function with so many parameters.

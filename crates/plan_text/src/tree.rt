@@ -286,6 +286,7 @@ impl Tree {
                 self.known_counter(kind, name)
             }
             Said::SetCounter(value, name) => self.known_number(name, value),
+            Said::Unlatched(is_latch, name) => Err(Refusal::Bad(LineFault::NoGate(is_latch, name))),
             Said::NotifyOne(condvar) | Said::NotifyAll(condvar) => {
                 self.known(NameKind::Condvar, condvar)
             }
