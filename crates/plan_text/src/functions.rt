@@ -42,6 +42,11 @@ pub(crate) fn written_out(
     text: &mut Text,
     lines: &[Line],
 ) -> Result<Vec<Line>, TextFault> {
+    if !lines.iter().any(|line| text.has_role(*line, Role::Define)
+        || text.has_role(*line, Role::Invoke))
+    {
+        return Ok(Vec::from_slice(alloc, lines)?);
+    }
     let mut calls = Calls {
         lines,
         names: IndexSet::new(alloc),

@@ -128,7 +128,7 @@ impl Gates {
                 };
                 Some((template, *name, *most))
             }
-            (role, []) => self.call_template(role, *name),
+            (role @ (Role::Await | Role::CountDown), []) => self.call_template(role, *name),
             _ => None,
         })
     }
@@ -139,7 +139,7 @@ impl Gates {
         let template: Template = match (role, *gate) {
             (Role::Await, Role::Latch) => &AWAIT_LATCH,
             (Role::Await, _) => &AWAIT_BARRIER,
-            (Role::CountDown, Role::Latch) => &COUNT_DOWN,
+            (_, Role::Latch) => &COUNT_DOWN,
             _ => return None,
         };
         Some((template, name, *most))
