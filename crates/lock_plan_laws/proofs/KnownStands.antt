@@ -1,7 +1,7 @@
 -- A party stands at a place with what is known of it, or has announced itself there for a write.
-use Rattle.std.proofs.Common.{◌≡◌, ℕ, zero, suc, ◌+◌, ◌<◌, ◌⊎◌, inl, inr, Bool, true, false, nat_lt, if◌then◌else◌, List, length, get_or, Option, Some, None, Ok, refl, ap, sym, ◌∙◌, subst, arith}
+use Rattle.std.proofs.Common.{◌≡◌, ℕ, ◌+◌, ◌<◌, ◌⊎◌, inl, inr, Bool, true, false, nat_lt, if◌then◌else◌, List, length, get_or, Option, Some, None, Ok, refl, ap, sym, ◌∙◌, subst, arith}
 use Rattle.std.proofs.lemmas.Bool.{and_parts, false≢true}
-use Rattle.std.proofs.lemmas.List.{length-set, get_or-set_same, get_or_past}
+use Rattle.std.proofs.lemmas.List.{length-set, get_or-set_same}
 use Rattle.lock_modes.specs.declared.mode.Mode.{Mode}
 use Rattle.lock_modes.specs.declared.mode_step.ModeStep.TheVariants.{Acquire}
 use Rattle.lock_modes.specs.declared.lock_step.LockStep.{LockStep}
@@ -22,7 +22,7 @@ use Rattle.lock_plan.specs.Holds.{is_write, announces_itself}
 use Rattle.lock_plan.specs.CallFaults.{fault_on, call_fault}
 use Rattle.lock_plan.specs.Known.{Known, known_at, known_of}
 use Rattle.lock_plan.specs.Signals.{idles}
-use Rattle.lock_plan.specs.Worlds.{Stand, no_lock, act_in, act_of, call_in, next_in, other_in, is_counter, values_of, holds_after, at_place, gone, announced_for, first_stand}
+use Rattle.lock_plan.specs.Worlds.{Stand, no_lock, act_of, call_in, next_in, other_in, is_counter, values_of, holds_after, at_place, gone, announced_for, first_stand}
 use Rattle.lock_plan.proofs.Counters.{counter_is}
 use Rattle.lock_plan.proofs.Held.{IsHeld, few_announced}
 use Rattle.lock_plan.proofs.Walked.{IsWalked, Passed, Leaves, act_there, walked_is}
