@@ -222,7 +222,7 @@ def expanded(lines):
     parts = [found[begin:end] for begin, end in itertools.pairwise([*heads, len(found)])]
     found = [*found[: heads[0] if heads else None], *[it for part in parts for it in by_index(part)]]
     locks = {words[1] for _, words in found if words[0] in LOCK_LINES and len(words) > 1}
-    return turns(with_picks(found, locks))
+    return turns(with_picks(found, locks, {}))
 
 
 def is_head(words):
@@ -292,18 +292,23 @@ def with_gates(lines):
     return found
 
 
-def with_picks(lines, locks):
-    """The lines, with those below a `pick` up to the end of the part once for each lock among which it chooses."""
+def with_picks(lines, locks, others):
+    """The lines, with those below a `pick` up to the end of the part once for each lock among which it chooses.
+
+    A word after the first of a line is another one by the table of those. The name of a `pick` is none of these words.
+    """
     found, at = [], 0
     while at < len(lines):
         number, words = lines[at]
         at += 1
+        is_pick = words[0] == "pick"
+        words = [*words[: 1 + is_pick], *(others.get(it, it) for it in words[1 + is_pick :])]
         choices = choices_of(words, locks)
         if not choices:
             found.append((number, words))
             continue
         end = end_of_part(lines, at)
-        parts = [with_picks([(it, replaced(those, {words[1]: lock})) for it, those in lines[at:end]], locks) for lock in choices]
+        parts = [with_picks(lines[at:end], locks, {**others, words[1]: lock}) for lock in choices]
         found.append((number, [(Block if len(choices) > 1 else Inline)("pick"), *words[1:]]))
         found += parts[0]
         for part in parts[1:]:

@@ -157,7 +157,7 @@ impl Calls<'_> {
         self.bind(text, function.head, line)?;
         for at in (function.first..function.end).rev() {
             if let Some(inside) = self.lines.get(at) {
-                let inside = text.replaced(&self.stands, *inside)?;
+                let inside = text.replaced(&self.stands, *inside, 1)?;
                 let number = inside.at.number;
                 let at = LineAt { number, call };
                 self.pending.push(Line { at, ..inside })?;

@@ -125,8 +125,13 @@ impl Text {
         Ok(self.line(line.at, begin, true))
     }
 
-    /// Makes a line with the words for which those after its first one stand.
-    pub(crate) fn replaced(&mut self, stands: &Stands, line: Line) -> Result<Line, AllocError> {
+    /// Makes a line with the words for which those after its first ones stand.
+    pub(crate) fn replaced(
+        &mut self,
+        stands: &Stands,
+        line: Line,
+        first: usize,
+    ) -> Result<Line, AllocError> {
         let fields = self.fields(line);
         if !fields.iter().any(|word| stands.word(*word).is_some()) {
             return Ok(line);
@@ -134,7 +139,7 @@ impl Text {
         let begin = self.next();
         for at in line.first..line.end {
             let word = self.fields.get(at).copied().unwrap_or(0);
-            let other = if at > line.first {
+            let other = if at >= line.first.saturating_add(first) {
                 stands.word(word)
             } else {
                 None

@@ -85,10 +85,12 @@ impl Picks {
 
     /// Adds a line.
     fn add(&mut self, alloc: Global, text: &mut Text, line: Line) -> Result<(), TextFault> {
-        let line = text.replaced(&self.stands, line)?;
         if text.has_role(line, Role::Pick) {
+            // the name that a pick binds stands for nothing there
+            let line = text.replaced(&self.stands, line, 2)?;
             return self.pick(alloc, text, line);
         }
+        let line = text.replaced(&self.stands, line, 1)?;
         if is_head(text, line) {
             self.depth = 0;
         }
