@@ -1,4 +1,4 @@
--- Raw mutexes with the traits that the kit asks for.
+-- Raw mutexes with the traits that scripts need.
 use Rattle.lock_conform.specs.declared.plain_raw.PlainRaw.{PlainRaw}
 
 abbrev pub raw_of : {R : Type 0} → PlainRaw R → R

@@ -3,7 +3,7 @@ use lock_modes::Fault;
 use lock_traits::{RawMutex, RawMutexFair, RawMutexTimed};
 use std::alloc::Global;
 
-/// Gives a raw mutex the traits that the kit asks for: a fair release is a plain release, and a timed try is a plain try.
+/// Gives a raw mutex the traits that scripts need: a fair release is a plain release, and a timed try is a plain try.
 #[derive(Drop)]
 pub struct PlainRaw<R> {
     raw: R,
