@@ -1,4 +1,3 @@
-use Rattle.std.proofs.Common.{◌≡◌}
 use Rattle.lock_one_word.specs.Seats.{KeepsSeat}
 use Rattle.lock_one_word.specs.Drives.{at, rank, IsReleasing, LeadsTo}
 use Rattle.lock_one_word.proofs.word_lock.WordLock.take_on.Given as goal

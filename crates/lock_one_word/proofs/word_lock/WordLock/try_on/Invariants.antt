@@ -1,4 +1,4 @@
-use Rattle.std.proofs.Common.{◌≡◌, ◌-◌, ◌^◌}
+use Rattle.std.proofs.Common.{◌-◌, ◌^◌}
 use Rattle.lock_one_word.specs.Seats.{KeepsSeat}
 use Rattle.lock_one_word.specs.Drives.{at, CanGo, LeadsTo, IsTrying}
 use Rattle.lock_one_word.proofs.word_lock.WordLock.try_on.Given as goal
