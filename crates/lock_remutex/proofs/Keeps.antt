@@ -12,16 +12,12 @@ use Rattle.lock_remutex.specs.declared.owner_table.rule.OwnerKey.{OwnerKey}
 use Rattle.lock_remutex.specs.declared.owner_table.rule.OwnerStep.{OwnerStep}
 use Rattle.lock_remutex.specs.declared.owner_table.rule.OwnerStep.TheVariants.{Saw, Took, Made}
 use Rattle.lock_remutex.specs.declared.owner_table.rule.OwnerView.{OwnerView}
-use Rattle.lock_remutex.specs.OwnerTables.{party_in, count_in, IsWord, owned_at, IsAtHome, put_step, after_look, newcomer, IsOwnerTable, Self, Looks, Recounts, Takes, Puts, Hints}
+use Rattle.lock_remutex.specs.OwnerTables.{party_in, count_in, IsWord, owned_at, IsAtHome, put_step, after_look, newcomer, IsOwnerTable, Self, Looks, Recounts, Takes, Puts}
 
--- of two words, the first is written, or the second
-written : (ws : List ℕ) (n : ℕ) → length ws ≡ 2 → slice_index (set ws 0 n) 0 ≡ n
-written [] n two = absurd (omega arith)
-written (w ∷ ws) n two = refl
-
-beside : (ws : List ℕ) (n : ℕ) → slice_index (set ws 1 n) 0 ≡ slice_index ws 0
-beside [] n = refl
-beside (w ∷ ws) n = refl
+-- the only word, written
+written : (ws : List ℕ) (n : ℕ) → length ws ≡ 1 → slice_index (set ws 0 n) 0 ≡ n
+written [] n one = absurd (omega arith)
+written (w ∷ ws) n one = refl
 
 -- one slot, filled
 filled : {A : Type 0} (hs : List (Option A)) (a : A) → length hs ≡ 1 → set hs 0 (some a) ≡ some a ∷ []
@@ -37,10 +33,10 @@ module _ {K T : Type 0} (fits : K → T → Type 0) where
   AtHome key word homes = (l : Levels T) × (homes ≡ some (Some l) ∷ []) × IsAtHome (fits key.raw) key.limit word l
 
   pub starts : (key : OwnerKey K)
-      → IsOwnerTable fits key (opening (0 ∷ 0 ∷ []) (Some (free_levels key.limit) ∷ []) (newcomer key))
+      → IsOwnerTable fits key (opening (0 ∷ []) (Some (free_levels key.limit) ∷ []) (newcomer key))
   starts key =
       record {
-        two_words = refl;
+        one_word = refl;
         one_slot = refl;
         at_home = λ idle. (
           free_levels key.limit,
@@ -65,10 +61,10 @@ module _ {K T : Type 0} (fits : K → T → Type 0) where
       → IsOwnerTable fits key record { words = set s.words 0 n; homes = homes; views = views }
   on_owner key s n homes views kept one home =
       record {
-        two_words = length-set s.words 0 n ∙ kept.two_words;
+        one_word = length-set s.words 0 n ∙ kept.one_word;
         one_slot = one;
         at_home =
-            subst (λ (m : ℕ). m ≢ 1 → AtHome key m homes) (sym (written s.words n kept.two_words)) home;
+            subst (λ (m : ℕ). m ≢ 1 → AtHome key m homes) (sym (written s.words n kept.one_word)) home;
       }
 
   -- a step that leaves word and slot as they were
@@ -80,7 +76,7 @@ module _ {K T : Type 0} (fits : K → T → Type 0) where
       → Enters (IsOwnerTable fits key) slots 0 (λ n w. Looks (step slots 0 0 0 none) (newcomer key, []) n (w, []))
   looks key slots s kept same small = (
     record { key = key; step = Saw (slice_index s.words 0) },
-    record { two_words = kept.two_words; one_slot = kept.one_slot; at_home = kept.at_home },
+    record { one_word = kept.one_word; one_slot = kept.one_slot; at_home = kept.at_home },
     (refl, is_word key s kept),
   )
 
@@ -161,18 +157,3 @@ module _ {K T : Type 0} (fits : K → T → Type 0) where
         on_owner key s new (put_back s.homes me.1) _ kept (ap length homes) (λ idle. (l, homes, home)),
         refl,
       )
-
-  pub hints : (key : OwnerKey K) (slots id : ℕ) (me : Self K T) (new : ℕ)
-      → Allows (IsOwnerTable fits key) slots id me 1 (λ _. new) (λ _. Hints me new)
-  hints key slots id me new s kept same at small = (
-    me.0,
-    keeps,
-    tt,
-    record {
-      two_words = length-set s.words 1 new ∙ kept.two_words;
-      one_slot = kept.one_slot;
-      at_home =
-          subst (λ (m : ℕ). m ≢ 1 → AtHome key m s.homes) (sym (beside s.words new)) kept.at_home;
-    },
-    refl,
-  )

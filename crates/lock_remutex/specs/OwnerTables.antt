@@ -100,7 +100,7 @@ module _ {K T : Type 0} where
 
   -- while the word is not 1, the slot is at home
   pub record IsOwnerTable (fits : K → T → Type 0) (key : OwnerKey K) (s : State (std.Option (Levels T)) (OwnerView K T)) : Type 0 where
-    pub two_words : length s.words ≡ 2
+    pub one_word : length s.words ≡ 1
     pub one_slot : length s.homes ≡ 1
     pub at_home : slice_index s.words 0 ≢ 1
         → (l : Levels T) × (s.homes ≡ some (Some l) ∷ []) × IsAtHome (fits key.raw) key.limit (slice_index s.words 0) l
@@ -131,7 +131,3 @@ module _ {K T : Type 0} where
   -- a swap that puts levels back
   abbrev pub Puts : Self K T → ℕ → Self K T → Type 0
   Puts me found after = after ≡ (record me.0 { step = put_step me.0.step me.1 }, rest me.1)
-
-  -- a store of the hint
-  abbrev pub Hints : Self K T → ℕ → Self K T → Type 0
-  Hints me stored after = after ≡ me

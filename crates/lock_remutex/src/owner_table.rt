@@ -3,12 +3,12 @@ mod call;
 mod large;
 mod rule;
 
-ghost use Rattle.std.specs.Prelude.{◌≡◌, ◌≢◌, ◌<◌, ℕ, IfOk, IfErr, IfSome};
+ghost use Rattle.std.specs.Prelude.{◌≡◌, ◌≢◌, ◌<◌, ◌≤◌, ◌^◌, ℕ, IfOk, IfErr, IfSome};
 ghost use Rattle.lock_modes.specs.Limits.{IsLimit};
 ghost use Rattle.lock_modes.specs.Levels.{Levels, GivesTokenBack};
 ghost use Rattle.lock_modes.specs.Party.{id_of};
 ghost use Rattle.lock_remutex.specs.declared.owner_table.rule.OwnerStep.TheVariants.{Saw, Made};
-ghost use Rattle.lock_remutex.specs.OwnerTables.{party_in, count_in, IsIdle, OwnerFits};
+ghost use Rattle.lock_remutex.specs.OwnerTables.{party_in, count_in, word_at, IsIdle, OwnerFits};
 ghost use Rattle.lock_remutex.specs.OwnerCalls.{Again, First, Leaves, LeavesSole};
 
 use atomic_table::{Refused, Table};
@@ -26,9 +26,6 @@ use std::sync::Wait;
 /// The word is `FREE`, `BUSY`, `LARGE`, or the owner's id in its high half and the number of its levels in its low half.
 const OWNER: usize = 0;
 
-/// The index of the large id, a hint: the last id that did not fit into the owner word.
-const LARGE_ID: usize = 1;
-
 /// The owner word while there is no owner.
 const FREE: u64 = 0;
 
@@ -43,9 +40,9 @@ const PARTY: u64 = 1 << 32;
 
 /// The owner of a reentrant lock, its levels and its token.
 ///
-/// The owner word names the owner and counts its levels, so a further level is one load and one exchange. No call
-/// blocks. A call that makes an owner, or takes the last level, takes the levels from the slot and puts them back. Of
-/// the calls of an owner whose id does not fit, each does.
+/// The owner word names the owner and counts its levels, so a further level is one load and one exchange. A call that
+/// makes an owner, or takes the last level, takes the levels from the slot and puts them back. No call waits for an owner.
+/// A call by an id that does not fit takes the levels if an owner's id does not fit either, and yields while they are out.
 pub struct OwnerTable<K, T, P: TokenRule<K, T>> {
     table: Table<Option<Levels<T>>, OwnerView<K, T>, OwnerKey<K>, OwnerRule<P>, Global>,
     limit: u64,
@@ -60,7 +57,7 @@ impl<K, T, P: TokenRule<K, T>> Model for OwnerTable<K, T, P> {
 
     ghost view = { λ t. record { id = t.table.shared.table_id; key = t.table.shared.key } };
 
-    ghost invariant = { λ t. (t.table.shared.table_id.words ≡ 2) × (t.table.shared.table_id.slots ≡ 1)
+    ghost invariant = { λ t. (t.table.shared.table_id.words ≡ 1) × (t.table.shared.table_id.slots ≡ 1)
         × (t.limit ≡ t.table.shared.key.limit) × IsLimit t.limit };
 }
 
@@ -83,7 +80,7 @@ impl<K, T, P: TokenRule<K, T>> OwnerTable<K, T, P> {
                 return Err(AllocError);
             }
         }
-        match Table::new(alloc, &[FREE, 0], slots, key) {
+        match Table::new(alloc, &[FREE], slots, key) {
             Ok((table, _)) => Ok(OwnerTable {
                 table,
                 limit: key.limit,
@@ -135,12 +132,12 @@ impl<K, T, P: TokenRule<K, T>> OwnerTable<K, T, P> {
         ensures fits { OwnerFits (P.fits self.now.key.raw) result.1.step }
     {
         let (_, call) = self.look();
-        let (mut levels, mut section) = match self.take(call, FREE) {
+        let (mut levels, section) = match self.take(call, FREE) {
             Ok(taken) => taken,
             Err(call) => return (Some(token), call),
         };
         let back = levels.first(party, token);
-        let word = self.word_of(&mut section, party);
+        let word = first_word(party);
         (back, self.put(word, levels, section))
     }
 
@@ -264,4 +261,16 @@ impl<K, T, P: TokenRule<K, T>> Drop for OwnerTable<K, T, P> {
         unsafe { forget(closed.take(0)) };
         closed.free();
     }
+}
+
+/// Returns the owner word of the party at level 1.
+fn first_word(party: PartyId) -> u64
+    ensures named { id_of party < 2 ^ 32 → result ≡ word_at (id_of party) 1 }
+    ensures large { 2 ^ 32 ≤ id_of party → result ≡ 2 }
+{
+    let id = party.get();
+    if id >= PARTY {
+        return LARGE;
+    }
+    id * PARTY + 1
 }

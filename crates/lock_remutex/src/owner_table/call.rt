@@ -8,10 +8,8 @@ ghost use Rattle.lock_remutex.specs.OwnerTables.{party_in, count_in, owned_at, m
 ghost use Rattle.lock_remutex.specs.OwnerCalls.{IsTaken};
 ghost use Rattle.lock_remutex.specs.LevelSteps.{Lost};
 
-use crate::owner_table::rule::{
-    Hint, LookAtOwner, OwnerView, PutLevels, Recount, TakeLevels, TokenRule,
-};
-use crate::owner_table::{BUSY, LARGE_ID, OWNER, OwnerTable};
+use crate::owner_table::rule::{LookAtOwner, OwnerView, PutLevels, Recount, TakeLevels, TokenRule};
+use crate::owner_table::{BUSY, OWNER, OwnerTable};
 use atomic_table::Seat;
 pub(crate) use level::Level;
 use lock_modes::Levels;
@@ -163,15 +161,5 @@ impl<K, T, P: TokenRule<K, T>> OwnerTable<K, T, P> {
         }
         self.table.shared.swap::<PutLevels>(&mut seat, OWNER, word);
         OwnerCall { seat }
-    }
-
-    /// Stores the large id.
-    pub(super) fn hint(&self, section: &mut Section<K, T>, id: u64)
-        requires { section.old.table ≡ self.now }
-        ensures { section.new ≡ section.old }
-    {
-        self.table
-            .shared
-            .store::<Hint>(&mut section.seat, LARGE_ID, id);
     }
 }

@@ -2,12 +2,12 @@
 ghost use Rattle.std.specs.Prelude.{ℕ, ◌≡◌, ◌≢◌, ◌<◌, ◌≤◌, ◌^◌, IfOk, IfErr, IfSome};
 ghost use Rattle.lock_modes.specs.Party.{id_of};
 ghost use Rattle.lock_remutex.specs.declared.owner_table.rule.OwnerStep.TheVariants.{Saw};
-ghost use Rattle.lock_remutex.specs.OwnerTables.{party_in, word_at, made_by, IsLarge, OwnerFits};
+ghost use Rattle.lock_remutex.specs.OwnerTables.{party_in, made_by, IsLarge, OwnerFits};
 ghost use Rattle.lock_remutex.specs.OwnerCalls.{Again, Leaves, LeavesSole, IsTaken};
 
 use crate::owner_table::call::{OwnerCall, Section};
 use crate::owner_table::rule::TokenRule;
-use crate::owner_table::{FREE, LARGE, LARGE_ID, OwnerTable, PARTY};
+use crate::owner_table::{FREE, LARGE, OwnerTable};
 use lock_modes::{Fault, Levels, PartyId};
 use std::sync::Wait;
 use std::thread;
@@ -95,24 +95,9 @@ impl<K, T, P: TokenRule<K, T>> OwnerTable<K, T, P> {
         level > 0
     }
 
-    /// Returns the owner word of the party at level 1. A large id goes into the hint.
-    pub(super) fn word_of(&self, section: &mut Section<K, T>, party: PartyId) -> u64
-        requires { section.old.table ≡ self.now }
-        ensures section { section.new ≡ section.old }
-        ensures named { id_of party < 2 ^ 32 → result ≡ word_at (id_of party) 1 }
-        ensures large { 2 ^ 32 ≤ id_of party → result ≡ 2 }
-    {
-        let id = party.get();
-        if id < PARTY {
-            return id * PARTY + 1;
-        }
-        self.hint(section, id);
-        LARGE
-    }
-
-    /// Takes the levels if the party may be the owner, and otherwise returns the call that found that it is not.
+    /// Takes the levels if the owner's id is large, and otherwise returns the call that found that it is not.
     ///
-    /// A party that owns the lock can find the levels taken by another of its threads. It waits until they are back.
+    /// It waits while another call has the levels.
     fn enter_large<W: Wait>(
         &self,
         rt: &W,
@@ -125,8 +110,7 @@ impl<K, T, P: TokenRule<K, T>> OwnerTable<K, T, P> {
     {
         for _ in rt.forever() {
             let (word, call) = self.look();
-            let is_settled = word == FREE || word > LARGE;
-            if is_settled || self.table.shared.peek(LARGE_ID) != party.get() {
+            if word == FREE || word > LARGE {
                 return Err(call);
             }
             if word == LARGE {

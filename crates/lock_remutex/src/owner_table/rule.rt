@@ -87,12 +87,3 @@ impl<K, T> Play<Option<Levels<T>>, OwnerView<K, T>> for PutLevels {
 
     ghost then = { λ s. Puts };
 }
-
-/// A store of the large id.
-pub(super) struct Hint;
-
-impl<K, T> Play<Option<Levels<T>>, OwnerView<K, T>> for Hint {
-    ghost use Rattle.lock_remutex.specs.OwnerTables.{Hints};
-
-    ghost then = { λ s. Hints };
-}
