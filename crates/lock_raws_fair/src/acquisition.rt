@@ -4,11 +4,16 @@ ghost use Rattle.lock_raws_fair.specs.declared.line.TheConstants.{TIMED_SPAN};
 ghost use Rattle.lock_raws_fair.specs.Tickets.{is_first};
 ghost use Rattle.lock_raws_fair.specs.Sleeping.{may_acquire, may_end, Joins, MaySleep};
 
+mod refused;
+mod waiting;
+
 use crate::fair_arbiter::{FairArbiter, FairToken};
 use crate::fair_wake::FairWake;
 use crate::line::Ticket;
 use lock_modes::Mode;
 use lock_raws::Arbiter;
+pub(crate) use refused::Refused;
+pub(crate) use waiting::Waiting;
 
 /// How many tickets from the first on may spin: no more than a small machine has processors.
 const SPINNERS: u64 = 4;
@@ -18,16 +23,6 @@ pub(crate) struct Acquisition {
     mode: Mode,
     is_timed: bool,
     ticket: Option<Ticket>,
-}
-
-/// An acquisition that the state refused. Only `join` lets it look again.
-pub(crate) struct Refused {
-    acquisition: Acquisition,
-}
-
-/// An acquisition that has a ticket, or can get none. It spins or sleeps.
-pub(crate) struct Waiting {
-    acquisition: Acquisition,
 }
 
 impl Acquisition {
@@ -50,23 +45,6 @@ impl Acquisition {
             is_timed,
             ticket,
         }
-    }
-}
-
-impl Waiting {
-    /// Returns the ticket, or `None` if the acquisition can get none.
-    pub(crate) fn ticket(&self) -> &Option<Ticket>
-        ensures { result.now ≡ self.now.acquisition.ticket }
-    {
-        &self.acquisition.ticket
-    }
-
-    /// Ends the pause.
-    pub(crate) fn resumed(self) -> Acquisition
-        ensures { result ≡ self.acquisition }
-    {
-        let Waiting { acquisition } = self;
-        acquisition
     }
 }
 
