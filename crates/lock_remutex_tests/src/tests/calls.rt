@@ -10,32 +10,13 @@ use lock_remutex::{
 use lock_test_support::answer::equal;
 use lock_test_support::party;
 use lock_test_support::project::{Item0, Item1, NthItem};
-use lock_test_support::raw_lock::{CallWatch, watch_fair_end};
+use lock_test_support::raw_lock::{CallWatch, MAPS, MapCall, watch_fair_end};
 use lock_traits::{RawMutex, RawMutexFair};
 use std::alloc::Global;
 use std::sync::Arc;
 use std::test::Fail;
 
 type Pair = (u64, u64);
-
-/// A map of a guard, to the item at an index if it has one. A mapped guard is dropped, but for `MapEnd`.
-#[derive(Clone, Copy)]
-enum MapCall {
-    Map,
-    MapEnd,
-    TryMap(usize),
-    TryMapOrErr(usize),
-}
-
-/// Maps by a part that is there, and by one that is not.
-const MAPS: [MapCall; 6] = [
-    MapCall::Map,
-    MapCall::MapEnd,
-    MapCall::TryMap(1),
-    MapCall::TryMapOrErr(1),
-    MapCall::TryMap(2),
-    MapCall::TryMapOrErr(2),
-];
 
 /// Maps a guard that was just acquired.
 fn watch_map<R: RawMutexFair>(

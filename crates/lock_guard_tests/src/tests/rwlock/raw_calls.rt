@@ -9,7 +9,9 @@ use lock_rwlock::{
     Mappable, RwLock, RwLockGuard, RwLockReadGuard, RwLockUpgradableReadGuard, RwLockWriteGuard,
 };
 use lock_test_support::project::{Item0, Nested, inner_item};
-use lock_test_support::raw_lock::{AdmitsAll, CallWatch, watch_fair_end, watch_write};
+use lock_test_support::raw_lock::{
+    AdmitsAll, CallWatch, MAPS, MapCall, watch_fair_end, watch_write,
+};
 use lock_traits::{
     RawRwLock, RawRwLockFair, RawRwLockUpgrade, RawRwLockUpgradeDowngrade, RawRwLockUpgradeFair,
     RawRwLockUpgradeTimed,
@@ -31,25 +33,6 @@ fn names<R: RawRwLock>(lock: &Paired<R>, watch: &mut CallWatch) {
     RwLockWriteGuard::rwlock(&writer);
     watch.saw_hold(writer, Exclusive);
 }
-
-/// A map of a guard, to the item at an index of the inner pair if it has one. A mapped guard is dropped, but for `MapEnd`.
-#[derive(Clone, Copy)]
-enum MapCall {
-    Map,
-    MapEnd,
-    TryMap(usize),
-    TryMapOrErr(usize),
-}
-
-/// Maps to an item that is there, and to one that is not.
-const MAPS: [MapCall; 6] = [
-    MapCall::Map,
-    MapCall::MapEnd,
-    MapCall::TryMap(1),
-    MapCall::TryMapOrErr(1),
-    MapCall::TryMap(2),
-    MapCall::TryMapOrErr(2),
-];
 
 /// Maps a guard, which was just acquired in the mode.
 fn watch_map<L: Mappable + AcquireFair>(
