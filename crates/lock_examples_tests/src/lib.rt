@@ -1,4 +1,4 @@
-//! What the examples answer when threads use them, which no contract states.
+//! What the examples of shared locks answer when threads use them, which no contract states.
 #![tactic(auto)]
 
 #[cfg(test)]
