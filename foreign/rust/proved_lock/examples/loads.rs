@@ -12,7 +12,7 @@ use std::sync::atomic::{AtomicBool, Ordering::Relaxed};
 use std::time::{Duration, Instant};
 
 const TURN: Duration = Duration::from_millis(100);
-/// How many items a bounded queue has at most.
+/// How many items a bounded queue has at most, as the lines of queues say.
 const ROOM: usize = 16;
 
 /// What the threads of a turn did: rounds and switches a millisecond, the least rounds of a thread as a share of the mean, and
@@ -285,15 +285,34 @@ queue!(Other, parking_lot, mutex => mutex.lock(), (condvar, items) => {
 });
 queue!(Std, std::sync, mutex => mutex.lock().expect("no panic"), (condvar, items) => condvar.wait(items).expect("no panic"));
 
-fn queues(table: &mut Table) {
+/// Prints the lines of a queue. Its threads work for so long after each item.
+fn queues(table: &mut Table, what: &str, outside: u64) {
     let (std, other, mine) = (Std::default(), Other::default(), Mine::default());
     let entries: [Entry<'_>; 3] = [
-        (&|thread| mine.round(thread), &|| mine.wake()),
-        (&|thread| other.round(thread), &|| other.wake()),
-        (&|thread| std.round(thread), &|| std.wake()),
+        (
+            &|thread| {
+                mine.round(thread);
+                spin(outside);
+            },
+            &|| mine.wake(),
+        ),
+        (
+            &|thread| {
+                other.round(thread);
+                spin(outside);
+            },
+            &|| other.wake(),
+        ),
+        (
+            &|thread| {
+                std.round(thread);
+                spin(outside);
+            },
+            &|| std.wake(),
+        ),
     ];
     for each in [1, 2, 4] {
-        table.row(&format!("a queue of {ROOM} items, {each} + {each} threads"), 2 * each, 2.0, &entries);
+        table.row(&format!("{what}, {each} + {each} threads"), 2 * each, 2.0, &entries);
     }
 }
 
@@ -325,6 +344,7 @@ fn main() {
     rwlocks(&mut table, "one write in ten, short sections", 0, 10);
     rwlocks(&mut table, "one write in ten, 10 µs", ten, 10);
     rwlocks(&mut table, "one write in two, 10 µs", ten, 2);
-    queues(&mut table);
+    queues(&mut table, "a queue of 16 items", 0);
+    queues(&mut table, "a queue, 0.1 µs of work an item", ten / 100);
     table.print_shares();
 }
