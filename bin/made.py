@@ -45,7 +45,7 @@ def made(file, content, sources):
 
 
 def write(file, content, sources):
-    """Writes a program or an archive, and its FILE.made."""
+    """Writes a program, an archive or a module, and its FILE.made."""
     file.write_bytes(content)
-    file.chmod(0o644 if file.suffix == ".a" else 0o755)
+    file.chmod(0o644 if file.suffix in (".a", ".wasm") else 0o755)
     file.with_name(f"{file.name}.made").write_text(made(file, content, sources), encoding="utf-8")
