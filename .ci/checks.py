@@ -46,12 +46,12 @@ def difference(name, found, wanted):
     return None if found == wanted else f"{name}: found {found!r:.{SHOWN}}, wanted {wanted!r:.{SHOWN}}"
 
 
-def report(checks):
-    """Prints what each check found wrong, if not None, and then the last line. Returns the status."""
+def report(checks, skipped=None):
+    """Prints what each check found wrong, if not None, and then the last line, with what was skipped. Returns the status."""
     passed = failed = 0
     for wrong in checks:
         passed, failed = passed + (wrong is None), failed + (wrong is not None)
         if wrong is not None:
             print(wrong, flush=True)
-    print(f"{passed} passed, {failed} failed")
+    print(f"{passed} passed, {failed} failed{'' if skipped is None else f', {skipped} skipped'}")
     return failed > 0
