@@ -1,5 +1,5 @@
 -- What a driver knows of a call between two of its actions.
-use Rattle.std.specs.Prelude.{◌≡◌, ℕ, ◌+◌, ◌-◌, ◌<◌, Bool, true, false, if◌then◌else◌, ◌⊎◌, IsTrue, Result, IfErr, MatchResult}
+use Rattle.std.specs.Prelude.{◌≡◌, ℕ, ◌+◌, ◌-◌, ◌<◌, Bool, true, false, if◌then◌else◌, ◌⊎◌, IsTrue, Option, Some, None, Result, IfErr, MatchResult}
 use Rattle.lock_modes.specs.declared.hold.Hold.{Hold}
 use Rattle.lock_modes.specs.Holds.{hold_after}
 use Rattle.lock_word.specs.declared.want.ExWant.{ExWant}
@@ -11,11 +11,13 @@ use Rattle.lock_one.specs.declared.action.Action.TheVariants.{Load, Exchange, Su
 use Rattle.lock_one.specs.declared.call.Call.{Call}
 use Rattle.lock_one.specs.declared.stage.Stage.{Stage}
 use Rattle.lock_one.specs.declared.stage.Stage.TheVariants as stage
-use Rattle.lock_one.specs.Machine.{Progress, acquiring, next_of, turn}
+use Rattle.lock_one.specs.Machine.{Progress, acquiring, taking, next_of, turn}
 use Rattle.lock_one.specs.Rule.{is_upgrade}
 use Rattle.lock_one.specs.Steps.{ends}
 use Rattle.lock_one_word.specs.declared.rule.OneView.{OneView}
 use Rattle.lock_one_word.specs.declared.word_lock.steps.looked.Looked.{Looked}
+use Rattle.lock_one_word.specs.declared.word_lock.steps.unacquired.Unacquired.{Unacquired}
+use Rattle.lock_one_word.specs.declared.word_lock.steps.unreleased.Unreleased.{Unreleased}
 use Rattle.lock_one_word.specs.Calls.{IsTry, TimesOut}
 use Rattle.lock_one_word.specs.Seals.{Ending, ending}
 use Rattle.lock_one_word.specs.Seats.{Self, Task, to_acquire, to_release, IsGoing}
@@ -45,9 +47,22 @@ pub record Pending : Type 0 where
 abbrev pub at : Pending → Progress
 at p = (p.call, p.action)
 
+-- the call goes on, if its action was answered
+abbrev pub after_found : Option ℕ → Progress → Progress
+after_found None p = p
+after_found (Some found) p = next_of found p.0
+
 -- a call that acquires, at its action after its first load
 abbrev pub looked_at : Looked → Progress
 looked_at l = next_of l.word (acquiring l.readers l.want l.blocks true).0
+
+-- after it, or after the exchange that found another word
+abbrev pub unacquired_at : Unacquired → Progress
+unacquired_at u = after_found u.found (looked_at u.looked)
+
+-- a release after its load and the subtraction, or after one step alone
+abbrev pub unreleased_at : Unreleased → Progress
+unreleased_at u = next_of u.found (after_found u.looked (taking u.releasing.readers u.releasing.down)).0
 
 -- the loaded word has neither T nor the bit of sleepers and admits the call, whose exchange leaves this word
 abbrev pub Admits : Looked → ℕ → Type 0
@@ -100,11 +115,6 @@ IsRefusedLate has_end first me r =
 pub record IsTrying (next : Progress) : Type 0 where
   pub tries : next.0.blocks ≡ false
   pub stage : (next.0.stage ≡ stage.Try) ⊎ ((next.0.stage ≡ stage.Acquired) ⊎ ((next.0.stage ≡ stage.Refused) ⊎ (next.0.stage ≡ stage.WakeAcquired)))
-
--- a call that has looked goes on as this one, which is in time
-abbrev pub GoesOnAs : Looked → Self → Progress → Self → Type 0
-GoesOnAs l me next after =
-    LeadsTo (looked_at l) me next after × (l.blocks ≡ false → IsTrying next) × (next.0.blocks ≡ l.blocks) × (next.0.late ≡ false)
 
 abbrev pub says_yes : Action → Bool
 says_yes (End b) = b

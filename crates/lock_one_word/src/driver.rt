@@ -1,11 +1,11 @@
 //! The driver of a call: it makes the actions that the machine asks for.
 ghost use Rattle.std.specs.Prelude.{◌≡◌, true, false, None, IfSome, is_ok};
 ghost use Rattle.lock_one.specs.declared.action.Action.TheVariants.{End};
-ghost use Rattle.lock_one_word.specs.Drives.{at, looked_at, CanGo, GoesOn, EndsWith, IsInTime, IsRefusedLate, touches_lock};
+ghost use Rattle.lock_one_word.specs.Drives.{at, looked_at, unacquired_at, CanGo, GoesOn, EndsWith, IsInTime, IsRefusedLate, touches_lock};
 ghost use Rattle.lock_one_word.specs.Seats.{KeepsSeat};
 
 use crate::until::Until;
-use crate::word_lock::{CallSeat, Ended, Looked, Pending, WordLock};
+use crate::word_lock::{CallSeat, Ended, Looked, Pending, Unacquired, WordLock};
 use lock_one::Action;
 use std::sync::Wait;
 
@@ -69,18 +69,18 @@ impl WordLock {
         &self,
         rt: &R,
         seat: &mut CallSeat,
-        call: Pending,
+        call: Unacquired,
         until: &U,
     ) -> Result<Ended, Ended>
         requires table { seat.old.seat.table_id ≡ self.now.id }
-        requires going { CanGo (at call) seat.old.seat.me }
-        requires blocks { call.call.blocks ≡ true }
-        requires in_time { IsInTime U.has_end call.call }
+        requires going { CanGo (unacquired_at call) seat.old.seat.me }
+        requires blocks { (unacquired_at call).0.blocks ≡ true }
+        requires in_time { IsInTime U.has_end (unacquired_at call).0 }
         ensures table { KeepsSeat seat.old.seat seat.new.seat }
-        ensures ended { EndsWith (at call) seat.old.seat.me (is_ok result) seat.new.seat.me }
-        ensures refused { IsRefusedLate U.has_end (at call) seat.old.seat.me result }
+        ensures ended { EndsWith (unacquired_at call) seat.old.seat.me (is_ok result) seat.new.seat.me }
+        ensures refused { IsRefusedLate U.has_end (unacquired_at call) seat.old.seat.me result }
     {
-        let mut pending = call;
+        let mut pending = call.into_pending();
         for _ in rt.forever() {
             if let Some(answer) = self.make(rt, seat, &mut pending, until) {
                 return pending.answer(answer);

@@ -4,10 +4,10 @@ ghost use Rattle.lock_modes.specs.declared.hold.Hold.{Hold};
 ghost use Rattle.lock_modes.specs.Holds.{hold_has, hold_after};
 ghost use Rattle.lock_word.specs.declared.down.Down.{Down};
 ghost use Rattle.lock_word.specs.Word.{step_of_down};
-ghost use Rattle.lock_one_word.specs.Drives.{at, IsReleasing, EndsRelease};
+ghost use Rattle.lock_one_word.specs.Drives.{unreleased_at, IsReleasing, EndsRelease};
 ghost use Rattle.lock_one_word.specs.Seats.{KeepsSeat};
 
-use crate::word_lock::{CallSeat, Pending, WordLock};
+use crate::word_lock::{CallSeat, Unreleased, WordLock};
 use lock_word::Down;
 
 impl WordLock {
@@ -28,13 +28,13 @@ impl WordLock {
     /// Goes on with a release after its first steps.
     #[cold]
     #[inline(never)]
-    fn take_on(&self, seat: &mut CallSeat, call: Pending)
+    fn take_on(&self, seat: &mut CallSeat, call: Unreleased)
         requires table { seat.old.seat.table_id ≡ self.now.id }
-        requires going { IsReleasing (at call) seat.old.seat.me }
+        requires going { IsReleasing (unreleased_at call) seat.old.seat.me }
         ensures table { KeepsSeat seat.old.seat seat.new.seat }
-        ensures ended { EndsRelease (at call) seat.old.seat.me seat.new.seat.me }
+        ensures ended { EndsRelease (unreleased_at call) seat.old.seat.me seat.new.seat.me }
     {
-        let mut pending = call;
+        let mut pending = call.into_pending();
         while self.make_on_lock(seat, &mut pending) {}
         pending.end();
     }

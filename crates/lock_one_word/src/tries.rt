@@ -1,9 +1,9 @@
 //! How a call tries, without blocking.
 ghost use Rattle.std.specs.Prelude.{◌≡◌, false, is_ok};
-ghost use Rattle.lock_one_word.specs.Drives.{at, looked_at, CanGo, HasWoken, IsTrying, Tried, TriesEnd, says_yes};
+ghost use Rattle.lock_one_word.specs.Drives.{looked_at, unacquired_at, CanGo, HasWoken, IsTrying, Tried, TriesEnd, says_yes};
 ghost use Rattle.lock_one_word.specs.Seats.{KeepsSeat};
 
-use crate::word_lock::{CallSeat, Ended, Looked, Pending, WordLock};
+use crate::word_lock::{CallSeat, Ended, Looked, Pending, Unacquired, WordLock};
 use lock_one::Action;
 
 impl WordLock {
@@ -26,14 +26,14 @@ impl WordLock {
     /// Goes on with a try after its first steps.
     #[cold]
     #[inline(never)]
-    fn try_on(&self, seat: &mut CallSeat, call: Pending) -> Result<Ended, Ended>
+    fn try_on(&self, seat: &mut CallSeat, call: Unacquired) -> Result<Ended, Ended>
         requires table { seat.old.seat.table_id ≡ self.now.id }
-        requires going { CanGo (at call) seat.old.seat.me × IsTrying (at call) }
+        requires going { CanGo (unacquired_at call) seat.old.seat.me × IsTrying (unacquired_at call) }
         ensures table { KeepsSeat seat.old.seat seat.new.seat }
-        ensures tried { Tried (at call) (is_ok result) seat.old.seat.me seat.new.seat.me }
-        ensures ended { TriesEnd (at call) seat.old.seat.me result }
+        ensures tried { Tried (unacquired_at call) (is_ok result) seat.old.seat.me seat.new.seat.me }
+        ensures ended { TriesEnd (unacquired_at call) seat.old.seat.me result }
     {
-        let mut pending = call;
+        let mut pending = call.into_pending();
         while let Action::Exchange(old, new) = pending.action() {
             if pending.is_spent() {
                 return Err(pending.end());

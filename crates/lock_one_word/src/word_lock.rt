@@ -13,7 +13,7 @@ use lock_word::{has_exclusive, has_tokens};
 use std::alloc::Global;
 use std::marker::Model;
 pub use steps::WordToken;
-pub(crate) use steps::{CallSeat, Ended, Looked, Pending};
+pub(crate) use steps::{CallSeat, Ended, Looked, Pending, Unacquired, Unreleased};
 
 /// A reader-writer lock in one word, on which its waiters sleep.
 ///

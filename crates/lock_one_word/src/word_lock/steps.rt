@@ -15,6 +15,8 @@ mod releasing;
 mod seen;
 mod straight;
 mod token;
+mod unacquired;
+mod unreleased;
 
 use crate::until::{Left, Until};
 use crate::word_lock::WordLock;
@@ -28,6 +30,8 @@ use std::hint::spin_loop;
 use std::sync::Wait;
 use std::thread;
 pub use token::WordToken;
+pub(crate) use unacquired::Unacquired;
+pub(crate) use unreleased::Unreleased;
 
 impl WordLock {
     /// Loads the word.

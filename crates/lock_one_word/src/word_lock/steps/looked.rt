@@ -1,5 +1,5 @@
 //! A call that acquires, after its first load.
-ghost use Rattle.std.specs.Prelude.{◌≡◌, ◌≤◌, true, IfSome};
+ghost use Rattle.std.specs.Prelude.{◌≡◌, true, IfSome};
 ghost use Rattle.lock_one.specs.declared.action.Action.TheVariants.{End};
 ghost use Rattle.lock_one.specs.Machine.{next_of};
 ghost use Rattle.lock_one_word.specs.Drives.{at, looked_at, first_end, Admits};
@@ -11,8 +11,8 @@ use lock_word::ExWant;
 
 /// A call that acquires or upgrades, after its first load and before its exchange.
 ///
-/// A `Pending` is not made while nothing contends. This has no `Drop`: it ends by the exchange that acquires, or becomes a
-/// `Pending`.
+/// A `Pending` is not made while nothing contends. This has no `Drop`: it ends by the exchange that acquires, or goes on as an
+/// `Unacquired`.
 pub(crate) struct Looked {
     pub(super) readers: u64,
     pub(super) want: ExWant,
@@ -54,9 +54,7 @@ impl Looked {
         }
     }
 
-    /// Goes on with the call by the machine. Kept off the straight path.
-    #[cold]
-    #[inline(never)]
+    /// Goes on with the call by the machine.
     pub(super) fn into_pending(self) -> Pending
         ensures goes { at result ≡ looked_at self }
         ensures fresh { result.exchanges ≡ 0 }
@@ -69,19 +67,6 @@ impl Looked {
         } = self;
         let mut pending = Pending::acquire(readers, want, blocks);
         pending.go_on(word);
-        pending
-    }
-
-    /// Goes on with the call by the machine, after its exchange found another word.
-    #[cold]
-    #[inline(never)]
-    pub(super) fn after_exchange(self, found: u64) -> Pending
-        ensures goes { at result ≡ next_of found (looked_at self).0 }
-        ensures few { result.exchanges ≤ 1 }
-    {
-        let mut pending = self.into_pending();
-        pending.count();
-        pending.go_on(found);
         pending
     }
 }

@@ -2,15 +2,13 @@
 ghost use Rattle.std.specs.Prelude.{◌≡◌, true};
 ghost use Rattle.lock_one.specs.declared.action.Action.TheVariants.{End};
 ghost use Rattle.lock_one.specs.Machine.{next_of, taking};
-ghost use Rattle.lock_one_word.specs.Drives.{at};
 
-use crate::word_lock::steps::pending::Pending;
 use lock_word::Down;
 
 /// A call that releases or downgrades, before its first step.
 ///
 /// A `Pending` is not made while nothing contends. This has no `Drop`: it ends where the machine asks for the end, so that a
-/// body cannot forget a wake-up, or becomes a `Pending`.
+/// body cannot forget a wake-up, or goes on as an `Unreleased`.
 pub(crate) struct Releasing {
     pub(super) readers: u64,
     pub(super) down: Down,
@@ -35,28 +33,5 @@ impl Releasing {
             readers: _,
             down: _,
         } = self;
-    }
-
-    /// Goes on with the call by the machine, after one step. Kept off the straight path.
-    #[cold]
-    #[inline(never)]
-    pub(super) fn into_pending(self, found: u64) -> Pending
-        ensures { at result ≡ next_of found (taking self.readers self.down).0 }
-    {
-        let Releasing { readers, down } = self;
-        let mut pending = Pending::release(readers, down);
-        pending.go_on(found);
-        pending
-    }
-
-    /// Goes on with the call by the machine, after its load and its subtraction.
-    #[cold]
-    #[inline(never)]
-    pub(super) fn into_pending_after(self, looked: u64, found: u64) -> Pending
-        ensures { at result ≡ next_of found (next_of looked (taking self.readers self.down).0).0 }
-    {
-        let mut pending = self.into_pending(looked);
-        pending.go_on(found);
-        pending
     }
 }

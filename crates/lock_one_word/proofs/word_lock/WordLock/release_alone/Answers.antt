@@ -1,8 +1,7 @@
-use Rattle.std.proofs.Common.{◌-◌, refl, sym, ap, subst, ◌∙◌}
+use Rattle.std.proofs.Common.{◌-◌, refl, sym, ap, ◌∙◌}
 use Rattle.lock_one.specs.declared.action.Action.TheVariants.{Exchange}
-use Rattle.lock_one.specs.Machine.{Progress, taking, next_of}
+use Rattle.lock_one.specs.Machine.{taking, next_of}
 use Rattle.lock_one.proofs.Answers.{first_steps}
-use Rattle.lock_one_word.specs.Seats.{to_release, IsGoing}
 use Rattle.lock_one_word.proofs.Straight.{may_make, first_release, has_released}
 use Rattle.lock_one_word.proofs.word_lock.WordLock.release_alone.Goals as goal
 
@@ -28,8 +27,7 @@ pub returns-clause-goes_on : goal.returns-clause-goes_on
 returns-clause-goes_on c =
     let r = c.args.releasing in
     let found = c.exchange_word-found.result in
-    subst (λ (x : Progress). IsGoing x c.args.seat.now.seat.me.0.held (to_release r.down) c.exchange_word-found.new.seat.seat.me.0) (sym c.into_pending.ensures)
-    (first_release r.readers r.down c.args.seat.now.seat.me c.exchange_word-found.new.seat.seat.me (Exchange c.alone_word-word.result (c.alone_word-word.result - c.amount.result)) found
+    first_release r.readers r.down c.args.seat.now.seat.me c.exchange_word-found.new.seat.seat.me (Exchange c.alone_word-word.result (c.alone_word-word.result - c.amount.result)) found
     c.requires.readers c.requires.has
     (first_steps.releases r.readers r.down c.requires.alone ∙ (λ i. Exchange (sym c.alone_word-word.ensures i) (sym c.alone_word-word.ensures i - sym c.amount.ensures i)))
-    refl c.exchange_word-found.ensures.goes)
+    refl c.exchange_word-found.ensures.goes

@@ -1,7 +1,7 @@
-use Rattle.std.proofs.Common.{refl, sym, subst}
+use Rattle.std.proofs.Common.{refl, subst}
 use Rattle.lock_one.specs.declared.action.Action.{Action}
 use Rattle.lock_one.specs.declared.action.Action.TheVariants.{Load, Subtract}
-use Rattle.lock_one.specs.Machine.{Progress, taking, next_of}
+use Rattle.lock_one.specs.Machine.{taking, next_of}
 use Rattle.lock_one.proofs.Answers.{first_steps}
 use Rattle.lock_one_word.specs.Seats.{to_release, IsGoing}
 use Rattle.lock_one_word.proofs.Straight.{goes, first_release, has_released}
@@ -10,9 +10,8 @@ use Rattle.lock_one_word.proofs.word_lock.WordLock.remove_reader.Goals as goal
 pub returns-then-looked-ge-SLEEPERS-clause-goes_on : goal.returns-then-looked-ge-SLEEPERS-clause-goes_on
 returns-then-looked-ge-SLEEPERS-clause-goes_on c =
     let r = c.args.releasing in
-    subst (λ (x : Progress). IsGoing x c.args.seat.now.seat.me.0.held (to_release r.down) c.load_word-looked.new.seat.seat.me.0) (sym c.into_pending.ensures)
-    (first_release r.readers r.down c.args.seat.now.seat.me c.load_word-looked.new.seat.seat.me Load c.load_word-looked.result c.requires.readers c.requires.has
-    (first_steps.looks r.readers r.down c.requires.removes) refl c.load_word-looked.ensures.goes)
+    first_release r.readers r.down c.args.seat.now.seat.me c.load_word-looked.new.seat.seat.me Load c.load_word-looked.result c.requires.readers c.requires.has
+    (first_steps.looks r.readers r.down c.requires.removes) refl c.load_word-looked.ensures.goes
 
 pub subtract_from_word-found-requires-clause-going : goal.subtract_from_word-found-requires-clause-going
 subtract_from_word-found-requires-clause-going c =
@@ -51,6 +50,5 @@ returns-clause-goes_on c =
     let looked = next_of c.load_word-looked.result (taking r.readers r.down).0 in
     let going = first_release r.readers r.down c.args.seat.now.seat.me after Load c.load_word-looked.result c.requires.readers c.requires.has
     (first_steps.looks r.readers r.down c.requires.removes) refl c.load_word-looked.ensures.goes in
-    subst (λ (x : Progress). IsGoing x held (to_release r.down) last.0) (sym c.into_pending_after.ensures)
-    (goes looked (Subtract r.down) after last c.subtract_from_word-found.result held (to_release r.down)
-    (first_steps.removes r.readers c.load_word-looked.result r.down c.requires.removes c.if-looked-ge-SLEEPERS.false) refl c.subtract_from_word-found.ensures.goes going)
+    goes looked (Subtract r.down) after last c.subtract_from_word-found.result held (to_release r.down)
+    (first_steps.removes r.readers c.load_word-looked.result r.down c.requires.removes c.if-looked-ge-SLEEPERS.false) refl c.subtract_from_word-found.ensures.goes going

@@ -1,8 +1,8 @@
-use Rattle.std.proofs.Common.{◌≡◌, true, refl, sym, subst, ◌∙◌}
+use Rattle.std.proofs.Common.{◌≡◌, true, refl, subst, ◌∙◌}
 use Rattle.lock_one.specs.declared.action.Action.{Action}
 use Rattle.lock_one.specs.declared.action.Action.TheVariants.{Exchange, End}
-use Rattle.lock_one.specs.Machine.{Progress, next_of}
-use Rattle.lock_one_word.specs.Drives.{looked_at, IsTrying, GoesOnAs}
+use Rattle.lock_one.specs.Machine.{next_of}
+use Rattle.lock_one_word.specs.Drives.{looked_at, IsTrying}
 use Rattle.lock_one_word.specs.Seats.{IsGoing}
 use Rattle.lock_one_word.proofs.Blocks.{still_blocks, looked_blocks}
 use Rattle.lock_one_word.proofs.Deadlines.{looked_in_time, still_in_time}
@@ -19,7 +19,6 @@ exchange_word-found-requires-clause-going c =
 
 pub returns-in_default-clause-goes_on : goal.returns-in_default-clause-goes_on
 returns-in_default-clause-goes_on c =
-    subst (λ (x : Progress). GoesOnAs c.args.looked c.args.seat.now.seat.me x c.args.seat.now.seat.me) (sym c.into_pending.ensures.goes)
     (λ before task going. going, λ never. tries c.args.looked never, looked_blocks c.args.looked, looked_in_time c.args.looked)
 
 pub returns-then-found-word-clause-acquired : goal.returns-then-found-word-clause-acquired
@@ -44,8 +43,7 @@ returns-clause-goes_on c =
     let left = c.in-Some.left in
     let found = c.exchange_word-found.result in
     let is = asks l left c.in-Some.ensures in
-    let now = c.requires.going in
-    subst (λ (x : Progress). GoesOnAs l c.args.seat.now.seat.me x c.exchange_word-found.new.seat.seat.me) (sym c.after_exchange.ensures.goes) (
+    let now = c.requires.going in (
       λ before task going.
           goes (looked_at l) (Exchange l.word left) c.args.seat.now.seat.me c.exchange_word-found.new.seat.seat.me found before task is refl c.exchange_word-found.ensures.goes going,
       λ never.
