@@ -84,6 +84,10 @@ class Browser:
         self.tell("Page.navigate", url=address)
         self.wait_for("document.readyState == 'complete' && location.protocol != 'about:'")
 
+    def workers(self):
+        """How many workers there are."""
+        return sum(it["type"] == "worker" for it in self.ask("Target.getTargets", filter=[{}])["targetInfos"])
+
     def size(self, width, height, is_phone=False):
         self.tell("Emulation.setDeviceMetricsOverride", width=width, height=height, deviceScaleFactor=1, mobile=is_phone)
 
