@@ -9,6 +9,8 @@ use step_search::Budget;
 pub(crate) struct Endless;
 
 impl Budget for Endless {
+    ghost use Rattle.std.specs.Prelude.{false};
+
     ghost has_ended = { λ _. false };
 
     fn lasts(&mut self, _visited: usize) -> bool {
