@@ -11,7 +11,7 @@ use crate::fair_arbiter::{FairArbiter, FairToken};
 use crate::fair_wake::FairWake;
 use crate::line::Ticket;
 use lock_modes::Mode;
-use lock_raws::Arbiter;
+use lock_raws_monitor::Arbiter;
 pub(crate) use refused::Refused;
 pub(crate) use waiting::Waiting;
 

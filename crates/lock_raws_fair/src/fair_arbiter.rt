@@ -4,7 +4,7 @@ mod token;
 use crate::fair_wake::FairWake;
 use crate::line::{Line, Ticket};
 use lock_modes::{Bag, Fault, Mode};
-use lock_raws::{Arbiter, upgraded};
+use lock_raws_monitor::{Arbiter, upgraded};
 use std::alloc::Global;
 use std::marker::Model;
 pub use token::{FairToken, PendingUpgrade};
