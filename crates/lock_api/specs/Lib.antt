@@ -114,6 +114,7 @@ pub use Rattle.lock_raws_monitor.specs.ModeTokens
 pub use Rattle.lock_raws_fair.specs.Tickets
 pub use Rattle.lock_raws_fair.specs.LineLaws
 pub use Rattle.lock_raws_fair.specs.FairState
+pub use Rattle.lock_raws_fair.specs.FairSteps
 pub use Rattle.lock_raws_fair.specs.FairLaws
 pub use Rattle.lock_raws_fair.specs.FairWaking
 pub use Rattle.lock_raws_fair.specs.Notifying

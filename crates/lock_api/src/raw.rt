@@ -12,7 +12,7 @@ pub use lock_raws::{
 };
 pub use lock_raws_condvar::{SleepingCondvar, SpuriousCondvar, TimedCondvar};
 pub use lock_raws_fair::{
-    FairArbiter, FairCore, FairRaw, FairToken, FairWake, Line, LineStep, PendingUpgrade,
+    FairArbiter, FairCore, FairRaw, FairStep, FairToken, FairWake, Line, LineStep, PendingUpgrade,
     TIMED_SPAN, Ticket, TimedFairRaw,
 };
 pub use lock_raws_monitor::{

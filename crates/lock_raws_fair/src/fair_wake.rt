@@ -35,7 +35,7 @@ pub(crate) struct FairNotified {
 }
 
 impl FairWake {
-    /// Decides which waiters to wake after a step of the line or the end of an upgrade.
+    /// Decides whom a step of the line or the end of an upgrade wakes.
     pub fn after_line_step<A: Arbiter>(state: &FairArbiter<A>) -> FairWake
         ensures { Wakes state.now.line TIMED_SPAN
             (wakes_next state.now.upgrade_waits (bag_of_tokens state.now.tokens_out)) false result }
@@ -44,7 +44,7 @@ impl FairWake {
         FairWake::of(state, is_woken, false)
     }
 
-    /// Decides which waiters to wake after a release or a downgrade, from the bag before it.
+    /// Decides whom a release or a downgrade wakes, from the bag before it.
     #[inline(always)]
     pub fn after_token_step<A: Arbiter>(state: &FairArbiter<A>, before: Bag) -> FairWake
         requires { tokens before < 2 ^ 32 }

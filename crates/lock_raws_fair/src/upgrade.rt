@@ -64,7 +64,7 @@ impl<A: Arbiter> FairArbiter<A> {
         }
     }
 
-    /// Ends an upgrade if its time is over. Returns its token and which waiters to wake.
+    /// Ends an upgrade if its time is over. Returns its token and the owed wake-up.
     pub(crate) fn withdraw_if(
         &mut self,
         is_over: bool,

@@ -25,7 +25,7 @@ impl Model for MonitorWake {
 }
 
 impl MonitorWake {
-    /// Decides which waiters to wake after a step, from the readers' limit and the states before and after.
+    /// Decides whom a step wakes, from the readers' limit and the states before and after.
     pub fn decide(readers: u64, before: Occupancy, after: Occupancy) -> MonitorWake
         requires before_small { tokens before.bag < 2 ^ 64 }
         requires after_small { tokens after.bag < 2 ^ 64 }

@@ -1,4 +1,4 @@
-//! The steps of a `Monitor` on its arbiter, and the wake-ups that they owe.
+//! The steps of a `Monitor` on its arbiter, and their owed wake-ups.
 ghost use Rattle.std.specs.Prelude.{◌≡◌, ◌<◌, ◌^◌, ◌&&◌, true, false, is_some, IfErr, IfOk, IfSome, IsTrue};
 ghost use Rattle.lock_modes.specs.Bar.{passes_bar};
 ghost use Rattle.lock_modes.specs.declared.mode.Mode.TheVariants.{Upgradable, Exclusive};
@@ -28,7 +28,7 @@ pub(crate) fn admit<A: Arbiter>(arbiter: &mut A, mode: Mode) -> Option<ModeToken
     Some(ModeToken::new(token, mode))
 }
 
-/// Releases a token of the mode. Returns the wake-up that it owes.
+/// Releases a token of the mode. Returns the owed wake-up.
 pub(crate) fn give_back<A: Arbiter>(
     arbiter: &mut A,
     token: ModeToken<A::Token>,
@@ -63,7 +63,7 @@ pub(crate) fn upgrade<A: Arbiter>(
     }
 }
 
-/// Downgrades a token. A token that is not held changes nothing in the arbiter. Also returns the wake-up that it owes.
+/// Downgrades a token. A token that is not held changes nothing in the arbiter. Also returns the owed wake-up.
 pub(crate) fn downgrade<A: Arbiter>(
     arbiter: &mut A,
     token: ModeToken<A::Token>,
@@ -87,7 +87,7 @@ pub(crate) fn downgrade<A: Arbiter>(
     (ModeToken::new(token, to), decide(arbiter, before))
 }
 
-/// Returns the wake-up that a step owes, from the bag before it.
+/// Returns the owed wake-up of a step, from the bag before it.
 fn decide<A: Arbiter>(arbiter: &A, before: Bag) -> MonitorWake
     requires { tokens before < 2 ^ 64 }
     ensures { result ≡ wakes (A.reader_limit arbiter.now) (A.bar arbiter.now) before
