@@ -77,6 +77,7 @@ pub use Rattle.lock_ruled.specs.With
 pub use Rattle.lock_ruled.specs.Accounts
 pub use Rattle.lock_ruled.specs.Acquiring
 pub use Rattle.lock_ruled.specs.PermitCalls
+pub use Rattle.lock_time.specs.Deadlines
 pub use Rattle.lock_events.specs.Words as EventWords
 pub use Rattle.lock_events.specs.Events
 pub use Rattle.lock_events.specs.Kept as EventsKept
@@ -104,15 +105,16 @@ pub use Rattle.lock_ranked.specs.MappedGuards as RankedMappedGuards
 pub use Rattle.lock_ranked.specs.ReentrantGuards as RankedReentrantGuards
 pub use Rattle.lock_ranked.specs.Condvars as RankedCondvars
 pub use Rattle.lock_raws.specs.Downgrades
-pub use Rattle.lock_raws.specs.TokenArbiter
-pub use Rattle.lock_raws.specs.Waking
-pub use Rattle.lock_raws.specs.Journal
-pub use Rattle.lock_raws.specs.Recording
-pub use Rattle.lock_raws.specs.Condvars
-pub use Rattle.lock_raws.specs.ModeTokens
+pub use Rattle.lock_raws_monitor.specs.TokenArbiter
+pub use Rattle.lock_raws_monitor.specs.Waking
+pub use Rattle.lock_raws_monitor.specs.Journal
+pub use Rattle.lock_raws_monitor.specs.Recording
+pub use Rattle.lock_raws_condvar.specs.Condvars
+pub use Rattle.lock_raws_monitor.specs.ModeTokens
 pub use Rattle.lock_raws_fair.specs.Tickets
 pub use Rattle.lock_raws_fair.specs.LineLaws
 pub use Rattle.lock_raws_fair.specs.FairState
+pub use Rattle.lock_raws_fair.specs.FairSteps
 pub use Rattle.lock_raws_fair.specs.FairLaws
 pub use Rattle.lock_raws_fair.specs.FairWaking
 pub use Rattle.lock_raws_fair.specs.Notifying

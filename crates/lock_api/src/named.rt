@@ -1,7 +1,9 @@
 //! Locks under names that fix their raw lock. A call of a maker by such a name needs no type.
 use lock_mutex::{Condvar, Mutex};
-use lock_raws::{RecordingRaw, SleepingCondvar, TimedRaw, TokenRaw, WordRaw};
+use lock_raws::{TimedRaw, WordRaw};
+use lock_raws_condvar::SleepingCondvar;
 use lock_raws_fair::{FairRaw, TimedFairRaw};
+use lock_raws_monitor::{RecordingRaw, TokenRaw};
 use lock_remutex::ReentrantMutex;
 use lock_rwlock::RwLock;
 

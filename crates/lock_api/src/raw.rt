@@ -7,19 +7,20 @@ pub use lock_events::Begun;
 pub use lock_modes::{DEFAULT_LEVELS, DEFAULT_READERS, Levels, MAX_LIMIT, is_limit};
 pub use lock_one_word::{OneRule, OneView, WordLock, WordToken};
 pub use lock_raws::{
-    Arbiter, DEFAULT_ENTRIES, ExclusiveToken, LockCore, Monitor, NoTime, RawLock, RealTime,
-    Recorded, RecordingArbiter, RecordingRaw, SharedToken, SleepingCondvar, SpuriousCondvar,
-    TableArbiter, TimedCondvar, TimedRaw, Timing, TokenArbiter, TokenRaw, Unchanged,
-    UpgradableToken, Wake, WordCore, WordRaw, upgraded,
+    ExclusiveToken, LockCore, NoTime, RawLock, RealTime, RecordingCore, SharedToken, TimedRaw,
+    Timing, UpgradableToken, WordCore, WordRaw,
 };
+pub use lock_raws_condvar::{SleepingCondvar, SpuriousCondvar, TimedCondvar};
 pub use lock_raws_fair::{
-    FairArbiter, FairCore, FairRaw, FairToken, FairWake, Line, LineStep, PendingUpgrade,
+    FairArbiter, FairCore, FairRaw, FairStep, FairToken, FairWake, Line, LineStep, PendingUpgrade,
     TIMED_SPAN, Ticket, TimedFairRaw,
 };
-pub use lock_wake::{
-    CountRule, EventCount, HeldLock, LockEvents, Notified, Passed, Registered, Slept, time_left,
-    time_until,
+pub use lock_raws_monitor::{
+    Arbiter, DEFAULT_ENTRIES, Monitor, MonitorWake, Recorded, RecordingArbiter, RecordingRaw,
+    TableArbiter, TokenArbiter, TokenRaw, Unchanged, upgraded,
 };
+pub use lock_time::{Passed, time_left, time_until};
+pub use lock_wake::{CountRule, EventCount, HeldLock, LockWaits, Notified, Registered, Slept};
 pub use lock_word::seated::{Attempt, Party, SeatView, SeatedLock, WordRule};
 pub use lock_word::{
     Down, ExWant, Occupancy, has_bar, has_exclusive, has_tokens, unblocks, with_bar,

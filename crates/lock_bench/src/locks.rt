@@ -1,8 +1,9 @@
 //! Rounds of locks on one thread. Loops that a Rust program has too are not inlined, so that each is compiled by itself.
 use lock_modes::PartyId;
 use lock_mutex::Mutex;
-use lock_raws::{LockCore, Monitor, NoTime, RawLock, TableArbiter, WordCore};
+use lock_raws::{LockCore, NoTime, RawLock, WordCore};
 use lock_raws_fair::FairCore;
+use lock_raws_monitor::{Monitor, TableArbiter};
 use lock_remutex::ReentrantMutex;
 use lock_rwlock::{RwLock, RwLockUpgradableReadGuard, RwLockWriteGuard};
 use lock_traits::{RawMutex, RawRwLock, RawRwLockUpgradeDowngrade};

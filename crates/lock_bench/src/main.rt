@@ -8,8 +8,9 @@ mod four;
 mod locks;
 
 use lock_mutex::Mutex;
-use lock_raws::{TokenRaw, WordRaw};
+use lock_raws::WordRaw;
 use lock_raws_fair::FairRaw;
+use lock_raws_monitor::TokenRaw;
 use std::alloc::Global;
 use std::rt::Env;
 use std::sync::Wait;

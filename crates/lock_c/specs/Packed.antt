@@ -14,7 +14,7 @@ use Rattle.lock_events.specs.declared.call.EventCall.{EventCall}
 use Rattle.lock_c.specs.declared.codes.Code.{Code}
 use Rattle.lock_c.specs.declared.codes.Code.TheVariants as code
 use Rattle.lock_c.specs.declared.LockCall.{LockCall}
-use Rattle.lock_c.specs.declared.LockEvent.{LockEvent}
+use Rattle.lock_c.specs.declared.LockEventCall.{LockEventCall}
 use Rattle.lock_c.specs.declared.LockEventStep.{LockEventStep}
 use Rattle.lock_c.specs.declared.LockStep.{LockStep}
 use Rattle.lock_c.specs.Codes.{number_of_code, number_of_want, want_of, number_of_down, down_of, bit, is_set, number_of_stage, stage_of, number_of_event_stage, event_stage_of}
@@ -60,7 +60,7 @@ unpacked c = record {
   left = c.left;
 }
 
-abbrev pub packed_event : EventCall → LockEvent
+abbrev pub packed_event : EventCall → LockEventCall
 packed_event call = record {
   loaded = call.loaded;
   epoch = call.epoch;
@@ -70,7 +70,7 @@ packed_event call = record {
   late = bit call.late;
 }
 
-abbrev pub unpacked_event : LockEvent → EventCall
+abbrev pub unpacked_event : LockEventCall → EventCall
 unpacked_event c = record { stage = event_stage_of c.stage; all = is_set c.all; late = is_set c.late; lost = c.lost; loaded = c.loaded; epoch = c.epoch }
 
 abbrev pub step : Code → ℕ → ℕ → ℕ → LockStep

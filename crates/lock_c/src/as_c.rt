@@ -7,7 +7,7 @@ use crate::codes::{
     Code, bit, down_of_number, event_stage_of_number, number_of_code, number_of_down,
     number_of_event_stage, number_of_stage, number_of_want, stage_of_number, want_of_number,
 };
-use crate::{LockCall, LockEvent, LockEventStep, LockStep};
+use crate::{LockCall, LockEventCall, LockEventStep, LockStep};
 use lock_events::{EventAction, EventCall};
 use lock_one::{Action, Call, Sleeper, stored_amount, to_stored};
 use lock_word::Down;
@@ -52,10 +52,10 @@ pub(crate) fn unpacked(call: &LockCall) -> Call
     }
 }
 
-pub(crate) fn packed_event(call: &EventCall) -> LockEvent
+pub(crate) fn packed_event(call: &EventCall) -> LockEventCall
     ensures { result ≡ packed_event call.now }
 {
-    LockEvent {
+    LockEventCall {
         loaded: call.loaded,
         epoch: call.epoch,
         stage: number_of_event_stage(call.stage),
@@ -65,7 +65,7 @@ pub(crate) fn packed_event(call: &EventCall) -> LockEvent
     }
 }
 
-pub(crate) fn unpacked_event(call: &LockEvent) -> EventCall
+pub(crate) fn unpacked_event(call: &LockEventCall) -> EventCall
     ensures { result ≡ unpacked_event call.now }
 {
     EventCall {

@@ -48,7 +48,7 @@ pub struct LockCall {
 /// A wait or a notification between two of its steps, as in `lock_events::EventCall`. One thread has it at a time.
 #[repr(C)]
 #[derive(Drop)]
-pub struct LockEvent {
+pub struct LockEventCall {
     /// The word that the call found last. Its 24 high bits are how many waits are counted.
     pub loaded: u64,
     pub epoch: u64,
@@ -141,7 +141,7 @@ pub extern "C" fn lock_c_4_next(call: &mut LockCall, found: u32) -> LockStep
 ///
 /// The wait asks for the release of the mutex, and at its end for the acquisition.
 #[unsafe(no_mangle)]
-pub extern "C" fn lock_c_4_wait(call: &mut LockEvent) -> LockEventStep
+pub extern "C" fn lock_c_4_wait(call: &mut LockEventCall) -> LockEventStep
     ensures call { call.new ≡ packed_event waiting }
     ensures step { result ≡ step_of_event (action_of waiting) }
 {
@@ -152,7 +152,7 @@ pub extern "C" fn lock_c_4_wait(call: &mut LockEvent) -> LockEventStep
 
 /// Begins a notification of all waits, or of one if `all` is 0, and returns its first step.
 #[unsafe(no_mangle)]
-pub extern "C" fn lock_c_4_notify(call: &mut LockEvent, all: u8) -> LockEventStep
+pub extern "C" fn lock_c_4_notify(call: &mut LockEventCall, all: u8) -> LockEventStep
     ensures call { call.new ≡ packed_event (notifying (is_set all)) }
     ensures step { result ≡ step_of_event (action_of (notifying (is_set all))) }
 {
@@ -163,7 +163,7 @@ pub extern "C" fn lock_c_4_notify(call: &mut LockEvent, all: u8) -> LockEventSte
 
 /// Takes the answer to the last step of a wait or a notification, and returns the next one.
 #[unsafe(no_mangle)]
-pub extern "C" fn lock_c_4_next_event(call: &mut LockEvent, found: u64) -> LockEventStep
+pub extern "C" fn lock_c_4_next_event(call: &mut LockEventCall, found: u64) -> LockEventStep
     ensures call { call.new ≡ packed_event (event_next found (unpacked_event call.old)) }
     ensures step { result ≡ step_of_event (action_of (event_next found (unpacked_event call.old))) }
 {

@@ -7,8 +7,9 @@ use crate::choice::RawChoice;
 use crate::wrong::{Mistake, WrongRaw};
 use lock_conform::{Deadline, Manner, Report, run_mutex, run_reentrant, run_rwlock};
 use lock_modes::{Fault, MAX_LIMIT};
-use lock_raws::{LockCore, Monitor, NoTime, RawLock, RealTime, Recorded, TableArbiter, WordCore};
+use lock_raws::{LockCore, NoTime, RawLock, RealTime, WordCore};
 use lock_raws_fair::FairCore;
+use lock_raws_monitor::{Monitor, Recorded, TableArbiter};
 use lock_script::{DeskScript, Maker};
 use lock_traits::{
     RawMutex, RawMutexFair, RawMutexTimed, RawRwLock, RawRwLockTimed, RawRwLockUpgradeDowngrade,

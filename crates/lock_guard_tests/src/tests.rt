@@ -3,7 +3,7 @@ mod arc;
 mod gated;
 mod rwlock;
 
-use lock_raws::{Monitor, TableArbiter};
+use lock_raws_monitor::{Monitor, TableArbiter};
 
 /// The core of a `TokenRaw`. A test names the core, since each trait of a named raw lock would be proved anew.
 type Table = Monitor<TableArbiter, HostRuntime>;

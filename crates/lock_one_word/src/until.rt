@@ -1,7 +1,7 @@
 //! How long a call may wait.
 ghost use Rattle.std.specs.Prelude.{◌≡◌, Bool, true, false};
 
-use lock_wake::time_left;
+use lock_time::time_left;
 use std::time::{Clock, Duration, Instant};
 
 /// The time that a call may sleep.

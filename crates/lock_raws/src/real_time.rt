@@ -1,19 +1,15 @@
 //! Real time, by the waiter's clock.
 use crate::raw_lock::RawLock;
-use crate::sleeping_condvar::SleepingCondvar;
 use crate::timing::Timing;
 use crate::word_core::WordCore;
 use lock_modes::Mode;
 use lock_one_word::{WordLock, WordToken};
-use lock_wake::time_left;
+use lock_time::time_left;
 use std::sync::Wait;
 use std::time::{Clock, Duration, Instant};
 
 /// `WordRaw` with timed calls that block for as long as they are told, by the waiter's clock.
 pub type TimedRaw<W> = RawLock<WordCore<W, RealTime>>;
-
-/// A condition variable over it, whose timed waits sleep for as long as they are told.
-pub type TimedCondvar<W> = SleepingCondvar<TimedRaw<W>>;
 
 /// Real time, by the waiter's clock. If the clock cannot be read, no time is left.
 #[derive(Drop)]

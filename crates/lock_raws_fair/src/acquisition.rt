@@ -11,7 +11,7 @@ use crate::fair_arbiter::{FairArbiter, FairToken};
 use crate::fair_wake::FairWake;
 use crate::line::Ticket;
 use lock_modes::Mode;
-use lock_raws::Arbiter;
+use lock_raws_monitor::Arbiter;
 pub(crate) use refused::Refused;
 pub(crate) use waiting::Waiting;
 
@@ -49,7 +49,7 @@ impl Acquisition {
 }
 
 impl<A: Arbiter> FairArbiter<A> {
-    /// Acquires a token, which ends the acquisition, or refuses it. Also returns which waiters to wake.
+    /// Acquires a token, which ends the acquisition, or refuses it. Also returns the owed wake-up.
     pub(crate) fn attempt(
         &mut self,
         acquisition: Acquisition,
@@ -79,7 +79,7 @@ impl<A: Arbiter> FairArbiter<A> {
         }
     }
 
-    /// Ends a timed acquisition if its time is over, unless its ticket may not leave. Also returns which waiters to wake.
+    /// Ends a timed acquisition if its time is over, unless its ticket may not leave. Also returns the owed wake-up.
     pub(crate) fn end_if(
         &mut self,
         is_over: bool,

@@ -1,12 +1,14 @@
 //! An arbiter that admits in the order of arrival.
+mod step;
 mod token;
 
 use crate::fair_wake::FairWake;
 use crate::line::{Line, Ticket};
 use lock_modes::{Bag, Fault, Mode};
-use lock_raws::{Arbiter, upgraded};
+use lock_raws_monitor::{Arbiter, upgraded};
 use std::alloc::Global;
 use std::marker::Model;
+pub use step::FairStep;
 pub use token::{FairToken, PendingUpgrade};
 
 /// An arbiter with a line of tickets. It admits the first ticket that waits, and a caller without a ticket only if no
@@ -49,6 +51,8 @@ impl<A: Arbiter> FairArbiter<A> {
     ghost use Rattle.lock_raws.specs.Downgrades.{is_downgrade};
     ghost use Rattle.lock_raws_fair.specs.FairState.{FairState, may_pass, may_enter, KeepsTokens, KeepsLine};
     ghost use Rattle.lock_raws_fair.specs.FairWaking.{WakesAfterLineStep, WakesAfterTokenStep};
+    ghost use Rattle.lock_raws_fair.specs.declared.fair_arbiter.step.FairStep.TheVariants as fair;
+    ghost use Rattle.lock_raws_fair.specs.FairSteps.{MakesFairStep, end_of, announcement};
 
     /// Makes an arbiter without tokens and with an empty line.
     ///
@@ -112,6 +116,7 @@ impl<A: Arbiter> FairArbiter<A> {
         ensures added { IfSome result (λ held. Adds self.old.tokens_out self.new.tokens_out held.token mode) }
         ensures mode { IfSome result (λ held. held.mode ≡ mode) }
         ensures passed { IfSome result (λ _. Makes self.old.line Pass self.new.line) }
+        ensures step { IfSome result (λ _. MakesFairStep self.old (fair.Pass mode) self.new) }
         ensures refused { IfNone result (self.new ≡ self.old) }
         ensures upgrade_kept { self.new.upgrade_waits ≡ self.old.upgrade_waits }
         ensures limit_kept { self.new.readers ≡ self.old.readers }
@@ -129,6 +134,7 @@ impl<A: Arbiter> FairArbiter<A> {
         ensures ticket { IfSome result (λ ticket. (ticket ≡ self.old.line.issued) × Makes self.old.line Arrive self.new.line) }
         ensures none { IfNone result (self.new ≡ self.old) }
         ensures kept { KeepsTokens self.old self.new }
+        ensures step { IfSome result (λ _. MakesFairStep self.old fair.Arrive self.new) }
     {
         self.line.arrive()
     }
@@ -139,12 +145,13 @@ impl<A: Arbiter> FairArbiter<A> {
         ensures ticket { IfSome result (λ ticket. (ticket ≡ self.old.line.issued) × Makes self.old.line Arrive self.new.line) }
         ensures none { IfNone result (self.new ≡ self.old) }
         ensures kept { KeepsTokens self.old self.new }
+        ensures step { IfSome result (λ _. MakesFairStep self.old fair.Arrive self.new) }
     {
         self.line.arrive_timed()
     }
 
     /// Acquires a token of the mode for a ticket, if it is the first, no upgrade waits and the mode is admitted. The ticket ends,
-    /// or is returned unchanged. Also returns which waiters to wake.
+    /// or is returned unchanged. Also returns the owed wake-up.
     pub fn enter(
         &mut self,
         ticket: Ticket,
@@ -155,6 +162,7 @@ impl<A: Arbiter> FairArbiter<A> {
         ensures mode { IfOk result (λ entered. entered.0.mode ≡ mode) }
         ensures earliest { IfOk result (λ _. IsEarliest self.old.line ticket) }
         ensures entered { IfOk result (λ _. Makes self.old.line (Enter ticket) self.new.line) }
+        ensures step { IfOk result (λ _. MakesFairStep self.old (fair.Enter ticket mode) self.new) }
         ensures woken { IfOk result (λ entered. WakesAfterLineStep self.new entered.1) }
         ensures refused { IfErr result (λ same. (same ≡ ticket) × (self.new ≡ self.old)) }
         ensures upgrade_kept { self.new.upgrade_waits ≡ self.old.upgrade_waits }
@@ -173,10 +181,11 @@ impl<A: Arbiter> FairArbiter<A> {
     }
 
     /// Removes a ticket that waits less than `TIMED_SPAN` behind the first, which ends it, or returns it unchanged. Also returns
-    /// which waiters to wake.
+    /// the owed wake-up.
     pub fn leave(&mut self, ticket: Ticket) -> Result<FairWake, Ticket>
         ensures may { is_ok result ≡ may_leave TIMED_SPAN self.old.line ticket }
         ensures gone { IfOk result (λ _. Makes self.old.line (Leave ticket) self.new.line) }
+        ensures step { IfOk result (λ _. MakesFairStep self.old (fair.Leave ticket) self.new) }
         ensures woken { IfOk result (λ woken. WakesAfterLineStep self.new woken) }
         ensures refused { IfErr result (λ same. (same ≡ ticket) × (self.new ≡ self.old)) }
         ensures kept { KeepsTokens self.old self.new }
@@ -185,13 +194,14 @@ impl<A: Arbiter> FairArbiter<A> {
         Ok(FairWake::after_line_step(self))
     }
 
-    /// Releases a token, and returns which waiters to wake. A token that is not held in its mode is ignored.
+    /// Releases a token, and returns the owed wake-up. A token that is not held in its mode is ignored.
     pub fn give_back(&mut self, held: FairToken<A::Token>) -> FairWake
         ensures removed { IsOutAs self.old.tokens_out held.token held.mode
             → Removes self.old.tokens_out self.new.tokens_out held.token }
         ensures ignored { (IsOutAs self.old.tokens_out held.token held.mode → ⊥) → self.new.tokens_out ≡ self.old.tokens_out }
         ensures woken { WakesAfterTokenStep self.old self.new result }
         ensures kept { KeepsLine self.old self.new }
+        ensures step { MakesFairStep self.old fair.Keep self.new }
     {
         let before = self.bag();
         let FairToken { token, mode } = held;
@@ -199,7 +209,7 @@ impl<A: Arbiter> FairArbiter<A> {
         FairWake::after_token_step(self, before)
     }
 
-    /// Downgrades a token, whatever tickets wait. Also returns which waiters to wake. A token that is not held in its mode only
+    /// Downgrades a token, whatever tickets wait. Also returns the owed wake-up. A token that is not held in its mode only
     /// gets the new mode.
     pub fn downgrade(
         &mut self,
@@ -214,6 +224,7 @@ impl<A: Arbiter> FairArbiter<A> {
             → (result.0.token ≡ held.token) × (self.new.tokens_out ≡ self.old.tokens_out) }
         ensures woken { WakesAfterTokenStep self.old self.new result.1 }
         ensures kept { KeepsLine self.old self.new }
+        ensures step { MakesFairStep self.old fair.Keep self.new }
     {
         let before = self.bag();
         let FairToken { token, mode } = held;
@@ -241,6 +252,7 @@ impl<A: Arbiter> FairArbiter<A> {
             → IfOk result (λ next. (next.token ≡ held.token) × (self.new.tokens_out ≡ self.old.tokens_out)) }
         ensures refused { IfErr result (λ same. (same ≡ held) × (self.new ≡ self.old)) }
         ensures kept { KeepsLine self.old self.new }
+        ensures step { MakesFairStep self.old fair.Keep self.new }
     {
         let FairToken { token, mode } = held;
         match upgraded(self.arbiter.change(token, mode, Mode::Exclusive)) {
@@ -264,6 +276,7 @@ impl<A: Arbiter> FairArbiter<A> {
         ensures replaced { IsOutAs self.old.tokens_out pending.token.token Upgradable
             → IfOk result (λ next. Replaces self.old.tokens_out self.new.tokens_out pending.token.token next.token Exclusive) }
         ensures withdrawn { IfOk result (λ _. self.new.upgrade_waits ≡ (self.old.upgrade_waits && not pending.announced)) }
+        ensures step { IfOk result (λ _. MakesFairStep self.old (end_of pending.announced) self.new) }
         ensures refused { IfErr result (λ same. (same ≡ pending) × (self.new ≡ self.old)) }
         ensures limit_kept { self.new.readers ≡ self.old.readers }
         ensures line_kept { self.new.line ≡ self.old.line }
@@ -283,6 +296,7 @@ impl<A: Arbiter> FairArbiter<A> {
         ensures announced { result ≡ not self.old.upgrade_waits }
         ensures waits { self.new ≡ record self.old { upgrade_waits = true } }
         ensures pending { pending.new ≡ record pending.old { announced = pending.old.announced || result } }
+        ensures step { MakesFairStep self.old (announcement result) self.new }
     {
         if self.upgrade_waits {
             return false;
@@ -292,10 +306,11 @@ impl<A: Arbiter> FairArbiter<A> {
         true
     }
 
-    /// Ends a pending upgrade and its announcement. Returns its token and which waiters to wake.
+    /// Ends a pending upgrade and its announcement. Returns its token and the owed wake-up.
     pub fn withdraw(&mut self, pending: PendingUpgrade<A::Token>) -> (FairToken<A::Token>, FairWake)
         ensures back { result.0 ≡ pending.token }
         ensures withdrawn { self.new ≡ record self.old { upgrade_waits = self.old.upgrade_waits && not pending.announced } }
+        ensures step { MakesFairStep self.old (end_of pending.announced) self.new }
         ensures woken { WakesAfterLineStep self.new result.1 }
     {
         let PendingUpgrade { token, announced } = pending;

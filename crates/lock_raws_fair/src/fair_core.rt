@@ -2,7 +2,7 @@
 ghost use Rattle.std.specs.Prelude.{◌≡◌, true, IsTrue, IfSome, IfNone, IfOk, IfErr, OnErr, is_some};
 ghost use Rattle.std.specs.Bool.{OnTrue};
 ghost use Rattle.lock_modes.specs.declared.mode.Mode.TheVariants.{Upgradable, Exclusive};
-ghost use Rattle.lock_raws.specs.ModeTokens.{same_mode};
+ghost use Rattle.lock_raws_monitor.specs.ModeTokens.{same_mode};
 
 use crate::acquisition::Acquisition;
 use crate::fair_arbiter::{FairArbiter, FairToken};
@@ -10,7 +10,8 @@ use crate::fair_wake::FairWake;
 use crate::upgrade::Upgrade;
 use crate::waiters::FairWaiters;
 use lock_modes::{Fault, Mode};
-use lock_raws::{Arbiter, LockCore, NoTime, RawLock, RealTime, TableArbiter, Timing};
+use lock_raws::{LockCore, NoTime, RawLock, RealTime, Timing};
+use lock_raws_monitor::{Arbiter, TableArbiter};
 use lock_traits::lock_std;
 use std::alloc::Global;
 use std::clone::Clone;

@@ -1,4 +1,4 @@
-//! Which waiters a step of a fair lock wakes.
+//! The owed wake-up of a fair lock.
 ghost use Rattle.std.specs.Prelude.{◌≡◌, ◌<◌, ◌^◌, ◌&&◌, ◌==◌, false};
 ghost use Rattle.lock_modes.specs.Modes.{tokens};
 ghost use Rattle.lock_modes.specs.Tokens.{bag_of_tokens};
@@ -10,11 +10,13 @@ use crate::fair_arbiter::FairArbiter;
 use crate::line::TIMED_SPAN;
 use crate::waiters::FairWaiters;
 use lock_modes::Bag;
-use lock_raws::Arbiter;
+use lock_raws_monitor::Arbiter;
 use lock_wake::Notified;
 use lock_word::{Occupancy, unblocks};
 
-/// Which waiters a step of a fair lock wakes. It cannot be copied or dropped: `wake` consumes it.
+/// The owed wake-up of a step of a `FairArbiter`: decided, and not made yet. Contracts see whom it wakes.
+///
+/// It has no `Drop` and no `Clone`, and `wake` consumes it. So code that loses one does not compile.
 pub struct FairWake {
     /// The number of the first ticket that waits.
     ticket: Option<u64>,
@@ -33,7 +35,7 @@ pub(crate) struct FairNotified {
 }
 
 impl FairWake {
-    /// Decides which waiters to wake after a step of the line or the end of an upgrade.
+    /// Decides whom a step of the line or the end of an upgrade wakes.
     pub fn after_line_step<A: Arbiter>(state: &FairArbiter<A>) -> FairWake
         ensures { Wakes state.now.line TIMED_SPAN
             (wakes_next state.now.upgrade_waits (bag_of_tokens state.now.tokens_out)) false result }
@@ -42,7 +44,7 @@ impl FairWake {
         FairWake::of(state, is_woken, false)
     }
 
-    /// Decides which waiters to wake after a release or a downgrade, from the bag before it.
+    /// Decides whom a release or a downgrade wakes, from the bag before it.
     #[inline(always)]
     pub fn after_token_step<A: Arbiter>(state: &FairArbiter<A>, before: Bag) -> FairWake
         requires { tokens before < 2 ^ 32 }

@@ -35,9 +35,12 @@ pub fn idle_locks_admit()
     ensures { IdleLocksAdmit }
 {}
 
-/// While an upgrade waits, no ticket is admitted.
-pub fn nobody_passes_an_upgrade()
-    ensures { NobodyPassesAnUpgrade }
+/// While an upgrade waits, no acquisition is admitted, in any list of permitted steps, until it is admitted or withdrawn.
+///
+/// The acquisition may have a ticket or none. Each call that changes a `FairArbiter` makes one of these steps: its contract
+/// says which.
+pub fn nobody_passes_an_upgrade<K>()
+    ensures { NobodyPassesAnUpgrade K }
 {}
 
 /// A release or a downgrade that unblocks a mode wakes the first ticket.

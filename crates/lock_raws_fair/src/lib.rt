@@ -14,7 +14,7 @@ mod turn;
 mod upgrade;
 mod waiters;
 
-pub use fair_arbiter::{FairArbiter, FairToken, PendingUpgrade};
+pub use fair_arbiter::{FairArbiter, FairStep, FairToken, PendingUpgrade};
 pub use fair_core::{FairCore, FairRaw, TimedFairRaw};
 pub use fair_wake::FairWake;
 pub use laws::{

@@ -7,7 +7,7 @@ ghost use Rattle.lock_raws_fair.specs.Sleeping.{UpgradeMaySleep};
 
 use crate::fair_arbiter::{FairArbiter, FairToken, PendingUpgrade};
 use crate::fair_wake::FairWake;
-use lock_raws::Arbiter;
+use lock_raws_monitor::Arbiter;
 
 /// An upgrade that looks at the state next. It cannot be copied or dropped: it ends with its token.
 pub(crate) struct Upgrade<T> {
@@ -64,7 +64,7 @@ impl<A: Arbiter> FairArbiter<A> {
         }
     }
 
-    /// Ends an upgrade if its time is over. Returns its token and which waiters to wake.
+    /// Ends an upgrade if its time is over. Returns its token and the owed wake-up.
     pub(crate) fn withdraw_if(
         &mut self,
         is_over: bool,

@@ -11,8 +11,8 @@ use crate::line::Ticket;
 use crate::turn::{NOBODY, TurnHint, UPGRADE};
 use crate::upgrade::{Upgrade, WaitingUpgrade};
 use lock_modes::Fault;
-use lock_raws::Arbiter;
-use lock_wake::{LockEvents, Notified};
+use lock_raws_monitor::Arbiter;
+use lock_wake::{LockWaits, Notified};
 use std::alloc::Global;
 use std::sync::MutexGuard;
 
@@ -20,11 +20,11 @@ use std::sync::MutexGuard;
 #[derive(Drop)]
 pub(crate) struct FairWaiters {
     /// A ticket waits on the event count of its number, so a notification reaches every eighth ticket.
-    tickets: [LockEvents; 8],
+    tickets: [LockWaits; 8],
     /// The holder whose upgrade waits.
-    upgrader: LockEvents,
+    upgrader: LockWaits,
     /// The callers without a ticket.
-    ticketless: LockEvents,
+    ticketless: LockWaits,
     turn: TurnHint,
 }
 
@@ -34,17 +34,17 @@ impl FairWaiters {
     {
         Ok(FairWaiters {
             tickets: [
-                LockEvents::new(alloc)?,
-                LockEvents::new(alloc)?,
-                LockEvents::new(alloc)?,
-                LockEvents::new(alloc)?,
-                LockEvents::new(alloc)?,
-                LockEvents::new(alloc)?,
-                LockEvents::new(alloc)?,
-                LockEvents::new(alloc)?,
+                LockWaits::new(alloc)?,
+                LockWaits::new(alloc)?,
+                LockWaits::new(alloc)?,
+                LockWaits::new(alloc)?,
+                LockWaits::new(alloc)?,
+                LockWaits::new(alloc)?,
+                LockWaits::new(alloc)?,
+                LockWaits::new(alloc)?,
             ],
-            upgrader: LockEvents::new(alloc)?,
-            ticketless: LockEvents::new(alloc)?,
+            upgrader: LockWaits::new(alloc)?,
+            ticketless: LockWaits::new(alloc)?,
             turn: TurnHint::new(),
         })
     }
@@ -79,7 +79,7 @@ impl FairWaiters {
     }
 
     /// Returns where the ticket waits, or a caller without one.
-    fn events(&self, ticket: &Option<Ticket>) -> &LockEvents
+    fn events(&self, ticket: &Option<Ticket>) -> &LockWaits
         ensures { result.now ≡ events_of self.now.tickets self.now.ticketless ticket.now }
     {
         match ticket {
@@ -88,7 +88,7 @@ impl FairWaiters {
         }
     }
 
-    fn ticket_events(&self, number: u64) -> &LockEvents
+    fn ticket_events(&self, number: u64) -> &LockWaits
         ensures ticket { result.now ≡ events_of self.now.tickets self.now.ticketless (Some number) }
         ensures place { result.now ≡ slice_index_or self.now.tickets (number % 8) result.now }
     {

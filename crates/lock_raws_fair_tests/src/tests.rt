@@ -5,8 +5,9 @@ mod scene;
 
 use counts::{count_beside_readers, count_in_four_threads};
 use lock_modes::Mode::{Exclusive, Shared};
-use lock_raws::{RealTime, TableArbiter};
+use lock_raws::RealTime;
 use lock_raws_fair::{FairCore, FairRaw};
+use lock_raws_monitor::TableArbiter;
 use lock_test_support::answer::equal;
 use scene::Role::{Nothing, Pass, Release, TimedWrite, Upgrade, Write};
 use scene::{Actor, arrivals_beside_timed_calls, check_scenes};

@@ -3,13 +3,13 @@ ghost use Rattle.std.specs.Prelude.{◌≡◌, ◌⊎◌, true, false, IfOk, IfE
 ghost use Rattle.std.specs.Fn.{FnReturnsAt};
 ghost use Rattle.lock_ruled.specs.Ruled.{HasLocked};
 ghost use Rattle.lock_ruled.specs.Acquiring.{WasHeld};
-ghost use Rattle.lock_wake.specs.EventCalls.{HasPassed};
+ghost use Rattle.lock_time.specs.Deadlines.{HasPassed};
 
 use crate::guard::RuledGuard;
 use crate::mutex::RuledMutex;
 use crate::rule::MutexRule;
 use crate::user::User;
-use lock_wake::time_until;
+use lock_time::time_until;
 use std::sync::Wait;
 use std::time::{Clock, Instant};
 

@@ -3,7 +3,7 @@ ghost use Rattle.std.specs.Prelude.{◌≡◌, ◌-◌, ◌+◌, ◌<◌, ◌≤
 ghost use Rattle.lock_modes.specs.declared.fault.Fault.TheVariants as fault;
 ghost use Rattle.lock_ruled.specs.Ruled.{all_parts, first_user};
 ghost use Rattle.lock_ruled.specs.Permits.{with_more, with_fewer, HasFew};
-ghost use Rattle.lock_wake.specs.EventCalls.{HasPassed};
+ghost use Rattle.lock_time.specs.Deadlines.{HasPassed};
 
 use crate::holder::Holder;
 use crate::ledger::{Ledger, Settles, Share, Shares};

@@ -4,7 +4,7 @@ ghost use Rattle.std.specs.Prelude.{◌≡◌, ◌≤◌, None, IfOk, IfErr, IfS
 ghost use Rattle.lock_modes.specs.declared.fault.Fault.TheVariants as fault;
 ghost use Rattle.lock_ruled.specs.Accounts.{token_of};
 ghost use Rattle.lock_ruled.specs.PermitCalls.{IsRefused, IsSameCall, WasRefused};
-ghost use Rattle.lock_wake.specs.EventCalls.{HasPassed};
+ghost use Rattle.lock_time.specs.Deadlines.{HasPassed};
 
 mod guard;
 mod plays;
@@ -16,7 +16,7 @@ use crate::shared_semaphore::table::{PermitCall, PermitTable};
 use crate::shared_semaphore::waiters::PermitWaiters;
 pub use guard::{ArcPermitGuard, PermitGuard};
 use lock_modes::Fault;
-use lock_wake::time_until;
+use lock_time::time_until;
 pub use rule::{PermitRule, PermitView};
 use std::alloc::Global;
 use std::marker::Model;

@@ -2,14 +2,14 @@
 ghost use Rattle.std.specs.Prelude.{◌≡◌, false, IfErr, MatchResult};
 ghost use Rattle.lock_ruled.specs.Ruled.{HasLocked};
 ghost use Rattle.lock_ruled.specs.Acquiring.{MayAcquire, MayHaveAcquired, WasHeld};
-ghost use Rattle.lock_wake.specs.EventCalls.{HasPassed};
+ghost use Rattle.lock_time.specs.Deadlines.{HasPassed};
 
 use crate::guard::RuledGuard;
 use crate::mutex::RuledMutex;
 use crate::rule::{MutexRule, UserView};
 use crate::user::User;
 use atomic_table::Seat;
-use lock_wake::time_until;
+use lock_time::time_until;
 use std::sync::Wait;
 use std::time::{Clock, Instant};
 

@@ -1,7 +1,5 @@
 -- What contracts see of a call.
-use Rattle.std.specs.Prelude.{◌≡◌, ℕ, Option, if◌then◌else◌}
-use Rattle.std.specs.Time.{instant_nanos}
-use Rattle.std.specs.declared.time.Instant.{Instant}
+use Rattle.std.specs.Prelude.{◌≡◌, ℕ, Option, None, if◌then◌else◌}
 use Rattle.atomic_table.specs.Seated.{TableId}
 use Rattle.lock_events.specs.declared.call.EventCall.{EventCall}
 use Rattle.lock_events.specs.declared.stage.EventStage.{EventStage}
@@ -10,7 +8,7 @@ use Rattle.lock_events.specs.Words.{last_epoch}
 use Rattle.lock_wake.specs.declared.owed_wake.OwedWake.{OwedWake}
 use Rattle.lock_wake.specs.declared.owed_wake.Whom.TheVariants.{One, All}
 use Rattle.lock_wake.specs.OwedWakes.{owed}
-pub use Rattle.lock_wake.specs.EventSeals.{Ended, Asleep, Keeper, PassedDeadline}
+pub use Rattle.lock_wake.specs.EventSeals.{Ended, Asleep, Keeper}
 
 -- a call: its event count, its number in the order in which calls began, and the call as the machine has it
 pub record EventCallView : Type 0 where
@@ -27,10 +25,6 @@ abbrev pub watched_at : EventStage → ℕ → ℕ
 watched_at Unlock epoch = epoch
 watched_at other epoch = last_epoch
 
--- a thread looked at the clock, and the deadline had passed or the clock could not be read
-abbrev pub HasPassed : Instant → Type 0
-HasPassed deadline = (look : PassedDeadline) × (look.nanos ≡ instant_nanos deadline)
-
 module _ {T : Type 0} where
   -- the wait of this number registered while the lock was held
   abbrev pub HasKept : TableId → T → ℕ → Type 0
@@ -40,3 +34,7 @@ module _ {T : Type 0} where
   -- the wait registered while the lock was held, and then slept
   abbrev pub HasSlept : TableId → T → Option ℕ → Asleep → Type 0
   HasSlept events held deadline wait = HasKept events held wait.number × (wait.events ≡ events) × (wait.deadline ≡ deadline)
+
+  -- a wait without a deadline registered while the lock was held, and then slept
+  abbrev pub Waited : TableId → T → Type 0
+  Waited events held = (wait : Asleep) × HasSlept events held None wait

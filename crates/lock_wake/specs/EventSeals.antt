@@ -1,5 +1,4 @@
--- What only the calls of an event count, or a look at the clock, make. Each record has a private field, so nobody else can write
--- one.
+-- What only the calls of an event count make. Each record has a private field, so nobody else can write one.
 use Rattle.std.specs.Prelude.{ℕ, Bool, Option, refl}
 use Rattle.std.specs.Coded.{Coded, code_by, coded×, coded_ℕ, coded_bool, coded_option}
 use Rattle.atomic_table.specs.Seated.{TableId, table_id_coded}
@@ -51,14 +50,3 @@ abbrev pub keeper_code : {T : Type 0} → Coded T → Coded (Keeper T)
 keeper_code {T} token =
     code_by (TableId × (ℕ × T)) (coded× table_id_coded (coded× coded_ℕ token)) (λ k. (k.events, (k.number, k.token)))
     (λ p. keeper p.0 p.1.0 p.1.1) (λ _. refl)
-
--- a deadline that had passed when a thread looked at the clock, in nanoseconds
-pub record PassedDeadline : Type 0 where
-  pub nanos : ℕ
-  sealed : Unit {0}
-
-abbrev pub passed : ℕ → PassedDeadline
-passed nanos = record { nanos = nanos; sealed = tt }
-
-abbrev pub passed_code : Coded PassedDeadline
-passed_code = code_by ℕ coded_ℕ (λ p. p.nanos) (λ n. passed n) (λ _. refl)

@@ -4,16 +4,14 @@
 //! crates above, a thread that sleeps on an epoch parks by `Watched::park` and is woken by `OwedWake::make`.
 #![tactic(auto)]
 
-mod deadline;
 mod laws;
 mod owed_wake;
 mod pauses;
 mod sleepers;
 mod watched;
 
-pub use deadline::{Passed, time_left, time_until};
 pub use laws::every_state_wakes_the_registered;
 pub use owed_wake::{OwedWake, Whom};
 pub use pauses::Pauses;
-pub use sleepers::{CountRule, EventCount, HeldLock, LockEvents, Notified, Registered, Slept};
+pub use sleepers::{CountRule, EventCount, HeldLock, LockWaits, Notified, Registered, Slept};
 pub use watched::Watched;

@@ -1,10 +1,10 @@
-//! A wake-up that is decided and not made yet.
+//! The owed wake-up of an epoch.
 ghost use Rattle.std.specs.Prelude.{◌≡◌, ◌<◌};
 ghost use Rattle.lock_wake.specs.OwedWakes.{owed};
 
 use atomic_table::{Shared, TableRule};
 
-/// Which of the threads that park on an epoch its end wakes.
+/// Which sleepers an owed wake-up is for.
 #[derive(Clone, Copy, PartialEq, Eq, Debug)]
 pub enum Whom {
     Nobody,
@@ -12,9 +12,9 @@ pub enum Whom {
     All,
 }
 
-/// A wake-up that is decided and not made yet.
+/// The owed wake-up of those that park on a word: decided, and not made yet.
 ///
-/// It has no `Drop`, so a body cannot forget one: `make` makes it.
+/// It has no `Drop` and no `Clone`, and `make` consumes it. So code that loses one does not compile.
 pub struct OwedWake {
     word: usize,
     whom: Whom,

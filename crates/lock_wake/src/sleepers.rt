@@ -8,5 +8,5 @@ mod rule;
 mod wait;
 
 pub use event_count::{EventCount, Notified, Registered, Slept};
-pub use lock_waits::{HeldLock, LockEvents};
+pub use lock_waits::{HeldLock, LockWaits};
 pub use rule::CountRule;

@@ -1,7 +1,8 @@
 //! How a mutex, its guards and a condition variable print, by `Debug` and by `Display`.
 use lock_modes::Fault;
 use lock_mutex::{Condvar, Mutex, MutexGuard};
-use lock_raws::{SpuriousCondvar, WordRaw};
+use lock_raws::WordRaw;
+use lock_raws_condvar::SpuriousCondvar;
 use lock_test_support::answer::{debug_is, equal, texts_are};
 use lock_test_support::project::Item0;
 use lock_traits::{RawCondvar, RawMutex};

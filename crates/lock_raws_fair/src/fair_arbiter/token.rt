@@ -9,7 +9,7 @@ pub struct FairToken<T> {
 
 impl<T> FairToken<T> {
     ghost use Rattle.std.specs.Prelude.{◌≡◌, true};
-    ghost use Rattle.lock_raws.specs.ModeTokens.{same_mode};
+    ghost use Rattle.lock_raws_monitor.specs.ModeTokens.{same_mode};
 
     /// Returns the mode.
     pub fn mode(&self) -> Mode

@@ -8,8 +8,9 @@ use crate::acquisition::{Acquisition, Waiting};
 use crate::fair_arbiter::FairArbiter;
 use crate::upgrade::{Upgrade, WaitingUpgrade};
 use crate::waiters::FairWaiters;
-use lock_raws::{Arbiter, Timing};
-use lock_wake::{LockEvents, Slept};
+use lock_raws::Timing;
+use lock_raws_monitor::Arbiter;
+use lock_wake::{LockWaits, Slept};
 use std::sync::{MutexGuard, Wait};
 
 impl FairWaiters {
@@ -52,7 +53,7 @@ impl FairWaiters {
 
 /// Registers on the event count, ends the section, and sleeps. If the deadline has passed, it only ends the section.
 fn sleep<A: Arbiter, W: Wait, T: Timing<W>>(
-    events: &LockEvents,
+    events: &LockWaits,
     waiter: &W,
     state: MutexGuard<'_, FairArbiter<A>>,
     deadline: &Option<T::Instant>,

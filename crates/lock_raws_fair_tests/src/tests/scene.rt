@@ -1,8 +1,9 @@
 //! Threads that act on one fair core, each after a number of events.
 use super::parts::{Parts, play_in_threads};
 use lock_modes::Mode::{self, Exclusive, Upgradable};
-use lock_raws::{Arbiter, LockCore, RealTime};
+use lock_raws::{LockCore, RealTime};
 use lock_raws_fair::FairCore;
+use lock_raws_monitor::Arbiter;
 use lock_test_support::answer::equal;
 use std::alloc::Global;
 use std::clone::Clone;

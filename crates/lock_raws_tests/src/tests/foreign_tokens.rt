@@ -1,7 +1,8 @@
 //! Tokens of another lock, which a lock over a table ignores.
 use lock_modes::Mode::Shared;
 use lock_modes::ModeStep::{Acquire, Release};
-use lock_raws::{Arbiter, Monitor, RawLock, RecordingArbiter, TableArbiter};
+use lock_raws::RawLock;
+use lock_raws_monitor::{Arbiter, Monitor, RecordingArbiter, TableArbiter};
 use lock_test_support::answer::equal;
 use lock_traits::{RawRwLock, RawRwLockDowngrade};
 use std::alloc::Global;

@@ -1,6 +1,7 @@
 //! Makers of raw locks to which memory is refused.
 use lock_modes::Fault;
-use lock_raws::{LockCore, Monitor, NoTime, RawLock, Recorded, WordCore};
+use lock_raws::{LockCore, NoTime, RawLock, WordCore};
+use lock_raws_monitor::{Monitor, Recorded};
 use lock_test_support::answer::{equal, lacks_memory};
 use lock_traits::{RawMutex, RawRwLock};
 use std::alloc::Global;

@@ -1,6 +1,7 @@
 //! Threads that share a raw lock: over a table, and on a word. Each test is on its own, so that each has its own time.
 use super::cases::{ROUNDS, RUNS_OF_FOUR_READERS, RUNS_OF_ONE_READER, check_cases, contend};
-use lock_raws::{TokenRaw, WordRaw};
+use lock_raws::WordRaw;
+use lock_raws_monitor::TokenRaw;
 use std::test::Fail;
 
 #[test]

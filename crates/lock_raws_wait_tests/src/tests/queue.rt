@@ -1,7 +1,9 @@
 //! Producers and consumers that sleep on condition variables.
 use lock_modes::Fault;
 use lock_mutex::{Condvar, Mutex};
-use lock_raws::{SleepingCondvar, TokenRaw, WordRaw};
+use lock_raws::WordRaw;
+use lock_raws_condvar::SleepingCondvar;
+use lock_raws_monitor::TokenRaw;
 use lock_test_support::answer::equal;
 use lock_traits::RawMutex;
 use std::alloc::Global;

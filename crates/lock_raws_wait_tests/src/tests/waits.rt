@@ -1,7 +1,8 @@
 //! Waits of a condition variable that measures time.
 use super::{is_over, short};
 use lock_modes::Fault;
-use lock_raws::{SleepingCondvar, TimedRaw};
+use lock_raws::TimedRaw;
+use lock_raws_condvar::SleepingCondvar;
 use lock_test_support::answer::equal;
 use lock_test_support::wait_for_flag;
 use lock_traits::{RawCondvar, RawCondvarTimed, RawMutex, RawMutexTimed, RawRwLock};

@@ -3,7 +3,7 @@ use crate::tests::only_level::taken_meanwhile;
 use lock_modes::Fault::{self, FullCount};
 use lock_modes::Mode::Exclusive;
 use lock_modes::PartyId;
-use lock_raws::TokenRaw;
+use lock_raws_monitor::TokenRaw;
 use lock_recorder::RawCall::{Lock, Unlock};
 use lock_recorder::{Deadline, Recorder};
 use lock_remutex::{ReentrantMutex, ReentrantMutexGuard};

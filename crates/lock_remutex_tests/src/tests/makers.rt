@@ -1,7 +1,7 @@
 //! The makers of a reentrant lock, and what a consumed lock returns.
 use lock_modes::Mode::Exclusive;
 use lock_modes::{Fault, PartyId};
-use lock_raws::TokenRaw;
+use lock_raws_monitor::TokenRaw;
 use lock_recorder::RawCall::Lock;
 use lock_recorder::Recorder;
 use lock_remutex::{RawReentrantMutex, ReentrantMutex};

@@ -1,6 +1,6 @@
 //! A lock whose owner may have one level, and a raw lock that admits everything.
 use lock_modes::{Fault, PartyId};
-use lock_raws::TokenRaw;
+use lock_raws_monitor::TokenRaw;
 use lock_remutex::{ReentrantMutex, ReentrantMutexGuard};
 use lock_test_support::answer::equal;
 use lock_test_support::raw_lock::AdmitsAll;

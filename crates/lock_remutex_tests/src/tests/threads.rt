@@ -1,6 +1,6 @@
 //! Parties that are threads.
 use lock_modes::{Fault, PartyId};
-use lock_raws::TokenRaw;
+use lock_raws_monitor::TokenRaw;
 use lock_recorder::CallLog;
 use lock_remutex::{ReentrantMutex, ReentrantMutexGuard};
 use lock_test_support::answer::equal;

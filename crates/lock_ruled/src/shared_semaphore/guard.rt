@@ -4,7 +4,7 @@ ghost use Rattle.std.specs.Arc.{arc_value};
 ghost use Rattle.lock_modes.specs.declared.fault.Fault.TheVariants as fault;
 ghost use Rattle.lock_ruled.specs.Accounts.{token_of};
 ghost use Rattle.lock_ruled.specs.PermitCalls.{WasRefused};
-ghost use Rattle.lock_wake.specs.EventCalls.{HasPassed};
+ghost use Rattle.lock_time.specs.Deadlines.{HasPassed};
 
 use crate::shared_semaphore::SharedSemaphore;
 use crate::shared_semaphore::table::PermitToken;

@@ -28,11 +28,11 @@ impl<T> HeldLock for MutexGuard<'_, T> {
 /// Its users can neither register nor sleep by themselves. So a wait that sleeps before the release, or twice for one release,
 /// does not compile.
 #[derive(Drop)]
-pub struct LockEvents {
+pub struct LockWaits {
     events: EventCount,
 }
 
-impl Model for LockEvents {
+impl Model for LockWaits {
     ghost use Rattle.atomic_table.specs.Seated.{TableId};
 
     ghost Value = { TableId };
@@ -40,12 +40,12 @@ impl Model for LockEvents {
     ghost view = { λ e. e.events };
 }
 
-impl LockEvents {
+impl LockWaits {
     /// Makes an event count without waits. No other call allocates.
-    pub fn new(alloc: Global) -> Result<LockEvents, Fault>
+    pub fn new(alloc: Global) -> Result<LockWaits, Fault>
         ensures { IfErr result (λ error. error ≡ fault.OutOfMemory) }
     {
-        Ok(LockEvents {
+        Ok(LockWaits {
             events: EventCount::new(alloc)?,
         })
     }

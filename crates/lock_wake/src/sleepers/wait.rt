@@ -2,10 +2,10 @@
 ghost use Rattle.std.specs.Prelude.{◌≡◌, false, Some, None};
 ghost use Rattle.std.specs.Time.{instant_nanos};
 
-use crate::deadline::time_left;
 use crate::sleepers::event_count::{EventCount, Registered, Slept};
 use crate::sleepers::registration::Registration;
 use lock_events::EventAction;
+use lock_time::time_left;
 use std::sync::Wait;
 use std::time::{Clock, Duration, Instant};
 

@@ -160,7 +160,7 @@ impl fmt::Debug for Condvar {
 mod tests {
     extern crate std;
     use super::*;
-    use crate::driver::{lock_c_next_event, lock_c_notify, lock_c_wait, Code, LockEvent, PASSED};
+    use crate::driver::{lock_c_next_event, lock_c_notify, lock_c_wait, Code, LockEventCall, PASSED};
     use crate::expected::{run, Numbers};
     use crate::mutex::Mutex;
     use crate::word::record;
@@ -171,7 +171,7 @@ mod tests {
         let mut guard = mutex.lock();
         let (answer, accesses) = record(&it.0, others, || it.wait_to(&mut guard, Some(&PASSED)).timed_out());
         core::mem::forget(guard); // a wait that is cut may have released the mutex
-        let mut call = LockEvent::default();
+        let mut call = LockEventCall::default();
         let step = lock_c_wait(&mut call);
         let (end, expected, word) = run(others, true, step, |found| lock_c_next_event(&mut call, found));
         let found = (answer, accesses, it.0.load(SeqCst));
@@ -181,7 +181,7 @@ mod tests {
     fn compare_notification(others: &[u64], all: bool) {
         let it = Condvar::new();
         let (answer, accesses) = record(&it.0, others, || it.notify(all));
-        let mut call = LockEvent::default();
+        let mut call = LockEventCall::default();
         let step = lock_c_notify(&mut call, all.into());
         let (end, expected, word) = run(others, false, step, |found| lock_c_next_event(&mut call, found));
         let found = (answer.map(u64::from), accesses, it.0.load(SeqCst));

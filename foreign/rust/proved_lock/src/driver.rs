@@ -50,7 +50,7 @@ pub(crate) struct LockCall {
 
 #[repr(C)]
 #[derive(Default)]
-pub(crate) struct LockEvent {
+pub(crate) struct LockEventCall {
     pub(crate) loaded: u64,
     epoch: u64,
     stage: u32,
@@ -131,11 +131,11 @@ unsafe extern "C" {
     #[link_name = symbol!("next")]
     pub(crate) safe fn lock_c_next(call: &mut LockCall, found: u32) -> LockStep;
     #[link_name = symbol!("wait")]
-    pub(crate) safe fn lock_c_wait(call: &mut LockEvent) -> LockEventStep;
+    pub(crate) safe fn lock_c_wait(call: &mut LockEventCall) -> LockEventStep;
     #[link_name = symbol!("notify")]
-    pub(crate) safe fn lock_c_notify(call: &mut LockEvent, all: u8) -> LockEventStep;
+    pub(crate) safe fn lock_c_notify(call: &mut LockEventCall, all: u8) -> LockEventStep;
     #[link_name = symbol!("next_event")]
-    pub(crate) safe fn lock_c_next_event(call: &mut LockEvent, found: u64) -> LockEventStep;
+    pub(crate) safe fn lock_c_next_event(call: &mut LockEventCall, found: u64) -> LockEventStep;
 }
 
 /// The number of futex among the system calls, from the kernel's tables: that of x86-64, or that of aarch64.
@@ -327,7 +327,7 @@ fn make_event(word: &EventWord, step: &LockEventStep, deadline: Option<&Timespec
 
 /// Waits on the condition variable with this word. Returns whether the wait ended before its deadline.
 pub(crate) fn wait(word: &EventWord, unlock: impl Fn(), lock: impl Fn(), deadline: Option<&Timespec>) -> bool {
-    let mut call = LockEvent::default();
+    let mut call = LockEventCall::default();
     let mut step = lock_c_wait(&mut call);
     while !step.ends() {
         match step.action {
@@ -343,7 +343,7 @@ pub(crate) fn wait(word: &EventWord, unlock: impl Fn(), lock: impl Fn(), deadlin
 /// Makes the rest of a notification, after its load of the word. Returns how many waited.
 #[cold]
 pub(crate) fn rest_of_notify(word: &EventWord, all: bool, loaded: u64) -> u32 {
-    let mut call = LockEvent::default();
+    let mut call = LockEventCall::default();
     lock_c_notify(&mut call, all.into());
     let mut step = lock_c_next_event(&mut call, loaded);
     while !step.ends() {

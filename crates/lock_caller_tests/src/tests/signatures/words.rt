@@ -4,9 +4,9 @@ use lock_api::model::{
     ParkView, Place, Places, Stage, WordCall, World, WorldParty,
 };
 use lock_api::raw::{
-    Attempt, Begun, CountRule, Down, EventCount, ExWant, NoTime, Notified, Occupancy, OneRule,
-    OneView, Party, RealTime, Registered, SeatView, SeatedLock, SleepingCondvar, TimedCondvar,
-    TimedRaw, Timing, Wake, WordCore, WordLock, WordRaw, WordRule, WordToken,
+    Attempt, Begun, CountRule, Down, EventCount, ExWant, MonitorWake, NoTime, Notified, Occupancy,
+    OneRule, OneView, Party, RealTime, Registered, SeatView, SeatedLock, SleepingCondvar,
+    TimedCondvar, TimedRaw, Timing, WordCore, WordLock, WordRaw, WordRule, WordToken,
 };
 use std::clone::Clone;
 use std::sync::Wait;
@@ -19,7 +19,7 @@ pub fn word_raws<W: Wait + Clone + Drop + Clock, T: Timing<W>>(
     _core: &WordCore<W, T>,
     _lock: &WordLock,
     _token: &WordToken,
-    _wake: &Wake,
+    _wake: &MonitorWake,
     _times: (&NoTime, &RealTime),
     _condvars: (&SleepingCondvar<WordRaw<W>>, &TimedCondvar<W>),
 ) {}

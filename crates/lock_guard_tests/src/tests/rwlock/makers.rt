@@ -1,7 +1,7 @@
 //! The makers of a lock.
 use lock_guard::forget;
 use lock_modes::Fault;
-use lock_raws::TokenRaw;
+use lock_raws_monitor::TokenRaw;
 use lock_recorder::Recorder;
 use lock_rwlock::RwLock;
 use lock_test_support::answer::{answers_or_lacks_memory, equal};

@@ -1,6 +1,7 @@
 //! An upgradable guard of a pair, beside a reader and then alone, which ends as the guard of a part.
 use crate::tests::is_refused;
-use lock_raws::{TokenRaw, WordRaw};
+use lock_raws::WordRaw;
+use lock_raws_monitor::TokenRaw;
 use lock_rwlock::{RwLock, RwLockReadGuard, RwLockUpgradableReadGuard, RwLockWriteGuard};
 use lock_test_support::answer::equal;
 use lock_test_support::project::Item0;

@@ -4,7 +4,7 @@ use super::calls::WaitEnd::For;
 use super::calls::waited;
 use lock_modes::Fault;
 use lock_mutex::{Condvar, Mutex};
-use lock_raws::SpuriousCondvar;
+use lock_raws_condvar::SpuriousCondvar;
 use lock_test_support::answer::equal;
 use lock_test_support::raw_lock::AdmitsAll;
 use lock_traits::{RawCondvar, RawCondvarTimed, RawMutex, RawMutexTimed};

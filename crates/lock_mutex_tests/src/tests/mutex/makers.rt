@@ -1,7 +1,8 @@
 //! The makers of a mutex, and what a consumed mutex returns.
 use lock_modes::Fault;
 use lock_mutex::{Condvar, Mutex};
-use lock_raws::{SleepingCondvar, TokenRaw};
+use lock_raws_condvar::SleepingCondvar;
+use lock_raws_monitor::TokenRaw;
 use lock_recorder::Recorder;
 use lock_test_support::answer::{answers_or_lacks_memory, equal};
 use lock_traits::{RawCondvar, RawMutex};

@@ -1,7 +1,8 @@
 //! A guard that is parked and bumped, and then ends as the guard of a part.
 use lock_guard::guard::{AcquireFair, Mapped, ValueGuard};
 use lock_mutex::{Guard, Mutex};
-use lock_raws::{TokenRaw, WordRaw};
+use lock_raws::WordRaw;
+use lock_raws_monitor::TokenRaw;
 use lock_test_support::answer::equal;
 use lock_test_support::project::Item0;
 use lock_traits::{RawMutex, RawMutexFair};

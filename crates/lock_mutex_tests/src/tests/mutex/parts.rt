@@ -4,7 +4,7 @@ use lock_guard::guard::{Acquire, AcquireFair, LockGuardMut, Mapped, ValueGuard, 
 use lock_modes::Mode::Exclusive;
 use lock_mutex::{Guard, Mutex};
 use lock_parts::{Missed, TryProject};
-use lock_raws::TokenRaw;
+use lock_raws_monitor::TokenRaw;
 use lock_recorder::RawCall::{IsLocked, Lock, Unlock, UnlockFair};
 use lock_test_support::answer::equal;
 use lock_test_support::project::{Item0, Item1, Nested, NthItem, inner_item};

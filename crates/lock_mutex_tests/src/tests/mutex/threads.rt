@@ -1,6 +1,7 @@
 //! Threads that count behind a mutex, and wait for each other.
 use lock_mutex::{Condvar, Mutex};
-use lock_raws::{SpuriousCondvar, WordRaw};
+use lock_raws::WordRaw;
+use lock_raws_condvar::SpuriousCondvar;
 use lock_test_support::raw_lock::AdmitsAll;
 use lock_test_support::{Count, add_in_four_threads};
 use lock_traits::RawMutex;

@@ -1,4 +1,0 @@
-use Rattle.lock_raws.proofs.sleeping_condvar.SleepingCondvarRawCondvar.wait.Goals as goal
-
-pub returns-clause-waited : goal.returns-clause-waited
-returns-clause-waited g c = (c.wait.result, c.wait.ensures.slept)

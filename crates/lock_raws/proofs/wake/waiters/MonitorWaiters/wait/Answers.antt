@@ -1,4 +1,0 @@
-use Rattle.lock_raws.proofs.wake.waiters.MonitorWaiters.wait.Goals as goal
-
-pub returns : goal.returns
-returns g c = (c.wait.result, c.wait.ensures.slept)
