@@ -21,10 +21,10 @@ sys.path.insert(0, f"{ROOT}/model")
 from explorer import Step, Threads, load, report, update
 
 U64, U32, U8 = ctypes.c_uint64, ctypes.c_uint32, ctypes.c_uint8
-(LOAD, EXCHANGE, SUBTRACT, OR, PARK, PARK_NEXT, WAKE_ONE, WAKE_ALL, WAKE_NEXT,
- SPIN, YIELD, REFUSED, DONE, UNLOCK, LOCK, PARK_READER, WAKE_TURN) = range(17)
+(LOAD, EXCHANGE, SUBTRACT, OR, SLEEP, SLEEP_NEXT, WAKE_ONE, WAKE_ALL, WAKE_NEXT,
+ SPIN, YIELD, REFUSED, DONE, UNLOCK, LOCK, SLEEP_READER, WAKE_TURN) = range(17)
 IS_LATE, IS_OVER = 32, 64  # the answers to a sleep after its deadline, and after the time of a brief sleep
-PARKS = {PARK: "asleep", PARK_NEXT: "next", PARK_READER: "reader"}
+SLEEPS = {SLEEP: "asleep", SLEEP_NEXT: "next", SLEEP_READER: "reader"}
 ACQUIRE, TIMED, TRY, RELEASE, RELEASED, EVENT = range(6)
 SHARED, EXCLUSIVE, UPGRADABLE, UPGRADE, TO_UPGRADABLE, UPGRADABLE_TO_SHARED = range(6)
 TO_SHARED = UPGRADE
@@ -85,11 +85,11 @@ class Calls(Threads):
         if action in (REFUSED, DONE):
             return then(action)
         assert act != RELEASED or action in WAKES, "a call goes on after its release"
-        if action in PARKS:
+        if action in SLEEPS:
             found = 0
             if (yield load(WORD, lambda number: self.number_of(number) == first)):
                 ends = [0] * self.early + [IS_LATE] * (act == TIMED) + [IS_OVER] * second
-                found = yield Step(lambda *now: [(now, it) for it in ends], PARKS[action])
+                found = yield Step(lambda *now: [(now, it) for it in ends], SLEEPS[action])
                 if found is None:  # woken, and perhaps late as well
                     found = yield Step(lambda *now: [(now, it) for it in (0, IS_LATE)[:1 + (act == TIMED)]])
         elif action in (LOCK, UNLOCK):

@@ -123,7 +123,7 @@ static long called(long number, const void *word, int operation, uint32_t value,
     MUST(number == SYS_futex && !unused && word == &current->word);
     if (operation == FUTEX_WAIT_BITSET_PRIVATE) {
         MUST((is_next || bits == PLAIN || bits == READER) && deadline == &over);
-        uint32_t found = (uint32_t)reach(word, is_next ? LOCK_PARK_NEXT : bits == READER ? LOCK_PARK_READER : LOCK_PARK, value, 0);
+        uint32_t found = (uint32_t)reach(word, is_next ? LOCK_SLEEP_NEXT : bits == READER ? LOCK_SLEEP_READER : LOCK_SLEEP, value, 0);
         errno = found == value ? ETIMEDOUT : EAGAIN;
         return -1;
     }
@@ -162,9 +162,9 @@ static uint64_t answer_to(uint64_t action, uint64_t first, uint64_t second, bool
     case LOCK_UNLOCK: return note(action, 0, 0), current->mutex.word = 0;
     case LOCK_LOCK: return note(action, 0, 0), current->mutex.word = PROVED_HELD_EXCLUSIVE, 0;
     }
-    bool is_park = action == LOCK_PARK || action == LOCK_PARK_NEXT || action == LOCK_PARK_READER; /* its second number is no word */
-    uint64_t found = reach(&current->word, action, first, is_park ? 0 : second);
-    if (is_park) return (uint32_t)found == first ? LOCK_IS_LATE : 0;
+    bool is_sleep = action == LOCK_SLEEP || action == LOCK_SLEEP_NEXT || action == LOCK_SLEEP_READER; /* its second number is no word */
+    uint64_t found = reach(&current->word, action, first, is_sleep ? 0 : second);
+    if (is_sleep) return (uint32_t)found == first ? LOCK_IS_LATE : 0;
     switch (action) {
     case LOCK_LOAD: return found;
     case LOCK_EXCHANGE: return change(found, found == first ? second : found);

@@ -26,7 +26,7 @@ static bool is_before(const struct timespec *a, const struct timespec *b) {
 }
 
 /* Sleeps while the word is the number. Returns the answer to the step. A deadline that is no valid time has passed. */
-static uint32_t park(uint32_t *word, uint32_t number, bool is_brief, int bits, const struct timespec *deadline) {
+static uint32_t sleep_on(uint32_t *word, uint32_t number, bool is_brief, int bits, const struct timespec *deadline) {
     struct timespec brief;
     const struct timespec *end = deadline;
     if (is_brief) {
@@ -84,9 +84,9 @@ static uint32_t make(uint32_t *word, struct lock_step s, const struct timespec *
         __atomic_compare_exchange_n(place, &found, s.second, false, __ATOMIC_SEQ_CST, __ATOMIC_SEQ_CST);
         return found;
     case LOCK_SUBTRACT: return __atomic_fetch_sub(place, s.first, __ATOMIC_SEQ_CST);
-    case LOCK_PARK: return park(place, s.first, s.second, PLAIN, deadline);
-    case LOCK_PARK_NEXT: return park(place, s.first, s.second, NEXT, deadline);
-    case LOCK_PARK_READER: return park(place, s.first, s.second, READER, deadline);
+    case LOCK_SLEEP: return sleep_on(place, s.first, s.second, PLAIN, deadline);
+    case LOCK_SLEEP_NEXT: return sleep_on(place, s.first, s.second, NEXT, deadline);
+    case LOCK_SLEEP_READER: return sleep_on(place, s.first, s.second, READER, deadline);
     case LOCK_WAKE_ONE: wake(place, 1, FUTEX_BITSET_MATCH_ANY); break;
     case LOCK_WAKE_ALL: wake(place, INT_MAX, FUTEX_BITSET_MATCH_ANY); break;
     case LOCK_WAKE_NEXT: wake(place, INT_MAX, NEXT); break;

@@ -52,7 +52,7 @@ pub use Rattle.lock_states.specs.Packed
 pub use Rattle.lock_word.specs.Seats
 pub use Rattle.lock_word.specs.CallerView
 pub use Rattle.lock_word.specs.Attempts
-pub use Rattle.lock_one.specs.Rule as ParkRule
+pub use Rattle.lock_one.specs.Rule as SleepRule
 pub use Rattle.lock_one.specs.Machine as CallMachine
 pub use Rattle.lock_one.specs.Steps as CallSteps
 pub use Rattle.lock_one.specs.Answers

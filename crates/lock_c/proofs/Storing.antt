@@ -11,11 +11,11 @@ use Rattle.lock_one.specs.declared.action.Action.{Action}
 use Rattle.lock_one.specs.declared.action.Action.TheVariants as one
 use Rattle.lock_one.specs.declared.action.Sleeper.{Sleeper}
 use Rattle.lock_one.specs.declared.action.Sleeper.TheVariants as sleeper
-use Rattle.lock_one.specs.declared.call.Call.{Call}
-use Rattle.lock_one.specs.declared.park.Debt.{Debt}
-use Rattle.lock_one.specs.declared.park.Debt.TheVariants as debt
-use Rattle.lock_one.specs.declared.park.ParkLimits.{ParkLimits}
-use Rattle.lock_one.specs.declared.park.ParkView.{ParkView}
+use Rattle.lock_one.specs.declared.call.WordCall.{WordCall}
+use Rattle.lock_one.specs.declared.sleep_view.Debt.{Debt}
+use Rattle.lock_one.specs.declared.sleep_view.Debt.TheVariants as debt
+use Rattle.lock_one.specs.declared.sleep_view.WordLimits.{WordLimits}
+use Rattle.lock_one.specs.declared.sleep_view.SleepView.{SleepView}
 use Rattle.lock_one.specs.declared.stage.Stage.{Stage}
 use Rattle.lock_one.specs.declared.stage.Stage.TheVariants as stage
 use Rattle.lock_one.specs.Machine.{Progress, class_of, is_brief, sleep_of, begun, goes_to, release_on, alone, taking}
@@ -32,7 +32,7 @@ record Fits (word : ℕ) : Type 0 where
   small : word < 2 ^ 37
   half : stored_of word < 2 ^ 32
 
-word_fits : (limits : ParkLimits) (word : ℕ) (views : List ParkView) → InHalf limits word views → Fits word
+word_fits : (limits : WordLimits) (word : ℕ) (views : List SleepView) → InHalf limits word views → Fits word
 word_fits limits word views h =
     record { small = h.keeps.small; half = storing_keeps_words.in_half limits word views h.limit h.few h.keeps }
 
@@ -75,9 +75,9 @@ made_alike : (action : Action) (word : ℕ) → Fits word → Serves action word
 made_alike one.Load word hw h = refl
 made_alike (one.Exchange a b) word hw h = exchanges a b word h.0 h.1 hw
 made_alike (one.Subtract d) word hw h = h
-made_alike (one.Park n sleeper.Next b) word hw h = refl
-made_alike (one.Park n sleeper.Reader b) word hw h = refl
-made_alike (one.Park n sleeper.Other b) word hw h = refl
+made_alike (one.Sleep n sleeper.Next b) word hw h = refl
+made_alike (one.Sleep n sleeper.Reader b) word hw h = refl
+made_alike (one.Sleep n sleeper.Other b) word hw h = refl
 made_alike one.WakeOne word hw h = refl
 made_alike one.WakeAll word hw h = refl
 made_alike one.WakeNext word hw h = refl
@@ -88,14 +88,14 @@ made_alike (one.End true) word hw h = refl
 made_alike (one.End false) word hw h = refl
 
 -- an exchange is of the loaded word
-record OfLoaded (call : Call) (action : Action) : Type 0 where
+record OfLoaded (call : WordCall) (action : Action) : Type 0 where
   left : ℕ
   is : action ≡ one.Exchange call.loaded left
 
 not_exchange : {A : Type 0} (action other : Action) → action ≡ other → is_exchange other ≡ false → IsTrue (is_exchange action) → A
 not_exchange action other same none is = absurd (false≢true (sym none ∙ (sym (ap is_exchange same) ∙ is)))
 
-sleep_is_none : (few : Bool) (class : Sleeper) (brief : Bool) (n : ℕ) → is_exchange (if few then one.Park n class brief else one.Yield) ≡ false
+sleep_is_none : (few : Bool) (class : Sleeper) (brief : Bool) (n : ℕ) → is_exchange (if few then one.Sleep n class brief else one.Yield) ≡ false
 sleep_is_none true class brief n = refl
 sleep_is_none false class brief n = refl
 
@@ -110,7 +110,7 @@ wake_is_none debt.All action wakes is = not_exchange action one.WakeAll wakes re
 wake_is_none debt.Next action wakes is = not_exchange action one.WakeNext wakes refl is
 wake_is_none debt.Turn action wakes is = not_exchange action one.WakeTurn wakes refl is
 
-of_loaded : (at : Stage) (call : Call) (v : ParkView) (action : Action) → IsAt at call v action → IsTrue (is_exchange action)
+of_loaded : (at : Stage) (call : WordCall) (v : SleepView) (action : Action) → IsAt at call v action → IsTrue (is_exchange action)
     → OfLoaded call action
 of_loaded stage.Look call v action h is = not_exchange action one.Load h.1 refl is
 of_loaded stage.Try call v action h is = record { left = _; is = h.2 }
@@ -133,16 +133,16 @@ of_loaded stage.Ended call v action h is = not_exchange action (one.End true) h.
 made_of_loaded : (a b : ℕ) → made (one.Exchange a b) a ≡ b
 made_of_loaded a b = ap (λ hit. if hit then b else a) (eq-eqb a a refl)
 
-module _ (call : Call) (v : ParkView) (action : Action) (before : Hold) (k : ℕ) (at : IsAt call.stage call v action)
+module _ (call : WordCall) (v : SleepView) (action : Action) (before : Hold) (k : ℕ) (at : IsAt call.stage call v action)
     (held : v.held ≡ hold_at call.stage call before) (steps : is_step call.stage ≡ true) where
   -- the word after the step of the call fits
-  after_fits : (word : ℕ) (views : List ParkView) → InHalf (limits_of call) word views → slice_get views k ≡ Some v
+  after_fits : (word : ℕ) (views : List SleepView) → InHalf (limits_of call) word views → slice_get views k ≡ Some v
       → Fits (made action word)
   after_fits word views h is =
       let next = steps_keep_the_rule word views k v call action word before h.limit h.keeps is at held steps (λ touched. refl) in
       word_fits (limits_of call) (made action word) (slice_set views k next.you) record { limit = h.limit; few = h.few; keeps = next.keeps }
 
-  serves : (earlier now : List ParkView) (word : ℕ)
+  serves : (earlier now : List SleepView) (word : ℕ)
       → (IsTrue (is_exchange action) → InHalf (limits_of call) call.loaded earlier × (slice_get earlier k ≡ Some v))
       → InHalf (limits_of call) word now → slice_get now k ≡ Some v → (kind : Action) → action ≡ kind → Serves action word
   serves earlier now word found h is (one.Exchange a b) same =
@@ -159,7 +159,7 @@ module _ (call : Call) (v : ParkView) (action : Action) (before : Hold) (k : ℕ
       subst (λ x. Serves x word) (sym same)
       (storing_keeps_words.subtracts (limits_of call) word now k v d (2 ^ 32) h.limit h.keeps is own (word_fits (limits_of call) word now h).half half)
   serves earlier now word found h is one.Load same = subst (λ x. Serves x word) (sym same) tt
-  serves earlier now word found h is (one.Park n class brief) same = subst (λ x. Serves x word) (sym same) tt
+  serves earlier now word found h is (one.Sleep n class brief) same = subst (λ x. Serves x word) (sym same) tt
   serves earlier now word found h is one.WakeOne same = subst (λ x. Serves x word) (sym same) tt
   serves earlier now word found h is one.WakeAll same = subst (λ x. Serves x word) (sym same) tt
   serves earlier now word found h is one.WakeNext same = subst (λ x. Serves x word) (sym same) tt
@@ -186,10 +186,10 @@ alone_fits readers word down.ToUpgradable = (record { small = omega arith; half 
 alone_fits readers word down.UpgradableToShared = (record { small = omega arith; half = omega arith }, record { small = omega arith; half = omega arith })
 alone_fits readers word down.Withdraw = (record { small = omega arith; half = omega arith }, record { small = omega arith; half = omega arith })
 
-park_compares : (few : Bool) (class : Sleeper) (brief : Bool) (n word : ℕ) → few ≡ true → Fits n → Fits word
-    → (stored_of word == (step_of (if few then one.Park n class brief else one.Yield)).first) ≡ (word == n)
-park_compares true class brief n word is hn hw = compares word n hw hn
-park_compares false class brief n word is hn hw = absurd (false≢true is)
+sleep_compares : (few : Bool) (class : Sleeper) (brief : Bool) (n word : ℕ) → few ≡ true → Fits n → Fits word
+    → (stored_of word == (step_of (if few then one.Sleep n class brief else one.Yield)).first) ≡ (word == n)
+sleep_compares true class brief n word is hn hw = compares word n hw hn
+sleep_compares false class brief n word is hn hw = absurd (false≢true is)
 
 pub storing_keeps_steps : StoringKeepsSteps
 storing_keeps_steps =
@@ -200,8 +200,8 @@ storing_keeps_steps =
           made_alike action word (word_fits (limits_of call) word now h) (serves call v action before k at held steps earlier now word found h is action refl);
       begins = λ readers word release small half.
           made_alike (taking readers release).1 word record { small = small; half = half } (alone_fits readers word release);
-      parks = λ call v action earlier now word at found h.
+      sleeps = λ call v action earlier now word at found h.
           rw at.5
-          (park_compares (nat_lt call.readers (2 ^ 27)) (class_of call.announced call.want) (is_brief call) call.loaded word (lt-ltb _ _ found.few)
+          (sleep_compares (nat_lt call.readers (2 ^ 27)) (class_of call.announced call.want) (is_brief call) call.loaded word (lt-ltb _ _ found.few)
           (word_fits (limits_of call) call.loaded earlier found) (word_fits (limits_of call) word now h));
     }

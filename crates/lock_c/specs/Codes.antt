@@ -16,8 +16,8 @@ number_of_code code.Load = 0
 number_of_code code.Exchange = 1
 number_of_code code.Subtract = 2
 number_of_code code.Or = 3
-number_of_code code.Park = 4
-number_of_code code.ParkNext = 5
+number_of_code code.Sleep = 4
+number_of_code code.SleepNext = 5
 number_of_code code.WakeOne = 6
 number_of_code code.WakeAll = 7
 number_of_code code.WakeNext = 8
@@ -27,7 +27,7 @@ number_of_code code.Refused = 11
 number_of_code code.Done = 12
 number_of_code code.Unlock = 13
 number_of_code code.Lock = 14
-number_of_code code.ParkReader = 15
+number_of_code code.SleepReader = 15
 number_of_code code.WakeTurn = 16
 
 abbrev pub number_of_want : ExWant → ℕ

@@ -6,7 +6,7 @@ use Rattle.lock_one.specs.declared.action.Action.{Action}
 use Rattle.lock_one.specs.declared.action.Action.TheVariants as one
 use Rattle.lock_one.specs.declared.action.Sleeper.{Sleeper}
 use Rattle.lock_one.specs.declared.action.Sleeper.TheVariants as sleeper
-use Rattle.lock_one.specs.declared.call.Call.{Call}
+use Rattle.lock_one.specs.declared.call.WordCall.{WordCall}
 use Rattle.lock_one.specs.Stored.{stored_of, stored_amount}
 use Rattle.lock_events.specs.declared.action.EventAction.{EventAction}
 use Rattle.lock_events.specs.declared.action.EventAction.TheVariants as event
@@ -26,7 +26,7 @@ asked_want n = want_of (min n 3)
 abbrev pub asked_down : ℕ → Down
 asked_down n = down_of (min n 5)
 
-abbrev pub packed : Call → LockCall
+abbrev pub packed : WordCall → LockCall
 packed call = record {
   readers = call.readers;
   loaded = call.loaded;
@@ -43,7 +43,7 @@ packed call = record {
   turned = bit call.turned;
 }
 
-abbrev pub unpacked : LockCall → Call
+abbrev pub unpacked : LockCall → WordCall
 unpacked c = record {
   readers = c.readers;
   stage = stage_of c.stage;
@@ -82,15 +82,15 @@ half_of word = stored_of word % 2 ^ 32
 
 -- the step of a sleeper of this class
 abbrev pub code_of : Sleeper → Code
-code_of sleeper.Next = code.ParkNext
-code_of sleeper.Reader = code.ParkReader
-code_of sleeper.Other = code.Park
+code_of sleeper.Next = code.SleepNext
+code_of sleeper.Reader = code.SleepReader
+code_of sleeper.Other = code.Sleep
 
 abbrev pub step_of : Action → LockStep
 step_of one.Load = step code.Load 0 0 0
 step_of (one.Exchange a b) = step code.Exchange 0 (half_of a) (half_of b)
 step_of (one.Subtract d) = step code.Subtract 0 (stored_amount (2 ^ 32) d) 0
-step_of (one.Park n class brief) = step (code_of class) 0 (half_of n) (bit brief)
+step_of (one.Sleep n class brief) = step (code_of class) 0 (half_of n) (bit brief)
 step_of one.WakeOne = step code.WakeOne 0 0 0
 step_of one.WakeAll = step code.WakeAll 0 0 0
 step_of one.WakeNext = step code.WakeNext 0 0 0
@@ -107,7 +107,7 @@ step_of_event event.Load = event_step code.Load 0 0
 step_of_event (event.Exchange a b) = event_step code.Exchange a b
 step_of_event (event.Subtract a) = event_step code.Subtract a 0
 step_of_event (event.Or a) = event_step code.Or a 0
-step_of_event (event.Park e) = event_step code.Park e 0
+step_of_event (event.Park e) = event_step code.Sleep e 0
 step_of_event event.WakeOne = event_step code.WakeOne 0 0
 step_of_event event.WakeAll = event_step code.WakeAll 0 0
 step_of_event event.Yield = event_step code.Yield 0 0
@@ -117,7 +117,7 @@ step_of_event (event.End b) = event_step (if b then code.Done else code.Refused)
 
 -- a call that is packed for C and unpacked again is the same
 abbrev pub PackingKeepsCalls : Type 0
-PackingKeepsCalls = (call : Call) → unpacked (packed call) ≡ call
+PackingKeepsCalls = (call : WordCall) → unpacked (packed call) ≡ call
 
 -- so is a wait or a notification
 abbrev pub PackingKeepsEvents : Type 0

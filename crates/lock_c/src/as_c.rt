@@ -9,10 +9,10 @@ use crate::codes::{
 };
 use crate::{LockCall, LockEventCall, LockEventStep, LockStep};
 use lock_events::{EventAction, EventCall};
-use lock_one::{Action, Call, Sleeper, stored_amount, to_stored};
+use lock_one::{Action, Sleeper, WordCall, stored_amount, to_stored};
 use lock_word::Down;
 
-pub(crate) fn packed(call: &Call) -> LockCall
+pub(crate) fn packed(call: &WordCall) -> LockCall
     ensures { result ≡ packed call.now }
 {
     LockCall {
@@ -32,10 +32,10 @@ pub(crate) fn packed(call: &Call) -> LockCall
     }
 }
 
-pub(crate) fn unpacked(call: &LockCall) -> Call
+pub(crate) fn unpacked(call: &LockCall) -> WordCall
     ensures { result ≡ unpacked call.now }
 {
-    Call {
+    WordCall {
         readers: call.readers,
         stage: stage_of_number(call.stage),
         want: want_of_number(call.want),
@@ -111,9 +111,9 @@ fn code_of(class: Sleeper) -> Code
     ensures { result ≡ code_of class }
 {
     match class {
-        Sleeper::Next => Code::ParkNext,
-        Sleeper::Reader => Code::ParkReader,
-        Sleeper::Other => Code::Park,
+        Sleeper::Next => Code::SleepNext,
+        Sleeper::Reader => Code::SleepReader,
+        Sleeper::Other => Code::Sleep,
     }
 }
 
@@ -126,7 +126,7 @@ pub(crate) fn step_of(next: Action) -> LockStep
             step(Code::Exchange, 0, half_of(first), half_of(second))
         }
         Action::Subtract(down) => step(Code::Subtract, 0, half_amount(down), 0),
-        Action::Park(word, class, is_brief) => {
+        Action::Sleep(word, class, is_brief) => {
             step(code_of(class), 0, half_of(word), u32::from(is_brief))
         }
         Action::WakeOne => step(Code::WakeOne, 0, 0, 0),
@@ -158,7 +158,7 @@ pub(crate) fn step_of_event(next: EventAction) -> LockEventStep
         EventAction::Exchange(first, second) => event_step(Code::Exchange, first, second),
         EventAction::Subtract(first) => event_step(Code::Subtract, first, 0),
         EventAction::Or(first) => event_step(Code::Or, first, 0),
-        EventAction::Park(epoch) => event_step(Code::Park, epoch, 0),
+        EventAction::Park(epoch) => event_step(Code::Sleep, epoch, 0),
         EventAction::WakeOne => event_step(Code::WakeOne, 0, 0),
         EventAction::WakeAll => event_step(Code::WakeAll, 0, 0),
         EventAction::Yield => event_step(Code::Yield, 0, 0),

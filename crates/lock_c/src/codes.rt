@@ -13,8 +13,8 @@ pub enum Code {
     Exchange,
     Subtract,
     Or,
-    Park,
-    ParkNext,
+    Sleep,
+    SleepNext,
     WakeOne,
     WakeAll,
     WakeNext,
@@ -24,7 +24,7 @@ pub enum Code {
     Done,
     Unlock,
     Lock,
-    ParkReader,
+    SleepReader,
     WakeTurn,
 }
 
@@ -36,8 +36,8 @@ pub(crate) fn number_of_code(code: Code) -> u32
         Code::Exchange => 1,
         Code::Subtract => 2,
         Code::Or => 3,
-        Code::Park => 4,
-        Code::ParkNext => 5,
+        Code::Sleep => 4,
+        Code::SleepNext => 5,
         Code::WakeOne => 6,
         Code::WakeAll => 7,
         Code::WakeNext => 8,
@@ -47,7 +47,7 @@ pub(crate) fn number_of_code(code: Code) -> u32
         Code::Done => 12,
         Code::Unlock => 13,
         Code::Lock => 14,
-        Code::ParkReader => 15,
+        Code::SleepReader => 15,
         Code::WakeTurn => 16,
     }
 }

@@ -24,9 +24,9 @@ pub use codes::Code;
 use codes::{down_of_number, want_of_number};
 pub use laws::{packing_keeps_calls, packing_keeps_events, storing_keeps_steps};
 use lock_events::EventCall;
-use lock_one::{Call, from_stored};
+use lock_one::{WordCall, from_stored};
 
-/// A call between two of its steps, as in `lock_one::Call`. One thread has it at a time.
+/// A call between two of its steps, as in `lock_one::WordCall`. One thread has it at a time.
 #[repr(C)]
 #[derive(Drop)]
 pub struct LockCall {
@@ -98,7 +98,7 @@ pub extern "C" fn lock_c_4_acquire(
     ensures call { call.new ≡ packed (acquiring readers (asked_want want) (is_set blocks) (is_set announces)).0 }
     ensures step { result ≡ step_of (acquiring readers (asked_want want) (is_set blocks) (is_set announces)).1 }
 {
-    let (begun, action) = Call::acquire(
+    let (begun, action) = WordCall::acquire(
         u64::from(readers),
         want_of_number(want.min(3)),
         blocks != 0,
@@ -117,7 +117,7 @@ pub extern "C" fn lock_c_4_release(call: &mut LockCall, readers: u32, down: u32)
     ensures call { call.new ≡ packed (taking readers (asked_down down)).0 }
     ensures step { result ≡ step_of (taking readers (asked_down down)).1 }
 {
-    let (begun, action) = Call::release(u64::from(readers), down_of_number(down.min(5)));
+    let (begun, action) = WordCall::release(u64::from(readers), down_of_number(down.min(5)));
     *call = packed(&begun);
     step_of(action)
 }

@@ -6,12 +6,12 @@ use Rattle.lock_word.specs.declared.down.Down.{Down}
 use Rattle.lock_word.specs.Word.{step_of_down}
 use Rattle.lock_one.specs.declared.action.Action.{Action}
 use Rattle.lock_one.specs.declared.action.Action.TheVariants as action
-use Rattle.lock_one.specs.declared.call.Call.{Call}
+use Rattle.lock_one.specs.declared.call.WordCall.{WordCall}
 use Rattle.lock_one.specs.declared.stage.Stage.{Stage}
 use Rattle.lock_one.specs.declared.stage.Stage.TheVariants as stage
-use Rattle.lock_one.specs.declared.park.ParkView.{ParkView}
-use Rattle.lock_one.specs.declared.park.Debt.{Debt}
-use Rattle.lock_one.specs.declared.park.Debt.TheVariants as debt
+use Rattle.lock_one.specs.declared.sleep_view.SleepView.{SleepView}
+use Rattle.lock_one.specs.declared.sleep_view.Debt.{Debt}
+use Rattle.lock_one.specs.declared.sleep_view.Debt.TheVariants as debt
 use Rattle.lock_one.specs.Machine.{class_of, is_brief, sleep_of}
 use Rattle.lock_one.specs.Steps.{IsAt, IsWake, is_step}
 
@@ -22,14 +22,14 @@ on_word (action.Exchange x y) = true
 on_word (action.Subtract d) = true
 on_word other = false
 
-quiet : (call : Call) → on_word (sleep_of call) ≡ false
+quiet : (call : WordCall) → on_word (sleep_of call) ≡ false
 quiet call = by (nat_lt call.readers (2 ^ 27))
   where
-    by : (b : Bool) → on_word (if b then action.Park call.loaded (class_of call.announced call.want) (is_brief call) else action.Yield) ≡ false
+    by : (b : Bool) → on_word (if b then action.Sleep call.loaded (class_of call.announced call.want) (is_brief call) else action.Yield) ≡ false
     by true = refl
     by false = refl
 
-pub steps_on : (st : Stage) (call : Call) (v : ParkView) (a : Action) → IsAt st call v a → on_word a ≡ true → is_step st ≡ true
+pub steps_on : (st : Stage) (call : WordCall) (v : SleepView) (a : Action) → IsAt st call v a → on_word a ≡ true → is_step st ≡ true
 steps_on stage.Look call v a is h = refl
 steps_on stage.Try call v a is h = refl
 steps_on stage.Pause call v a is h = refl
@@ -55,7 +55,7 @@ steps_on stage.Refused call v a is h = absurd (true≢false (sym h ∙ ap on_wor
 steps_on stage.Ended call v a is h = absurd (true≢false (sym h ∙ ap on_word is.1))
 
 -- who subtracts holds what the release takes
-pub subtracts_own : (st : Stage) (call : Call) (v : ParkView) (d : Down) → IsAt st call v (action.Subtract d) → IsTrue (hold_has v.held (step_of_down d))
+pub subtracts_own : (st : Stage) (call : WordCall) (v : SleepView) (d : Down) → IsAt st call v (action.Subtract d) → IsTrue (hold_has v.held (step_of_down d))
 subtracts_own stage.Look call v d is = let e = is.1 in cc
 subtracts_own stage.Try call v d is = let e = is.2 in cc
 subtracts_own stage.Pause call v d is = absurd is.1

@@ -9,12 +9,12 @@ use Rattle.lock_word.specs.declared.down.Down.{Down}
 use Rattle.lock_word.specs.declared.down.Down.TheVariants as down
 use Rattle.lock_word.specs.Word.{word_admits, word_after, amount, step_of_want, step_of_down}
 use Rattle.lock_one.specs.declared.action.Action.TheVariants as action
-use Rattle.lock_one.specs.declared.call.Call.{Call}
+use Rattle.lock_one.specs.declared.call.WordCall.{WordCall}
 use Rattle.lock_one.specs.declared.stage.Stage.{Stage}
 use Rattle.lock_one.specs.declared.stage.Stage.TheVariants as stage
-use Rattle.lock_one.specs.declared.park.ParkView.{ParkView}
-use Rattle.lock_one.specs.declared.park.Debt.{Debt}
-use Rattle.lock_one.specs.declared.park.Debt.TheVariants as debt
+use Rattle.lock_one.specs.declared.sleep_view.SleepView.{SleepView}
+use Rattle.lock_one.specs.declared.sleep_view.Debt.{Debt}
+use Rattle.lock_one.specs.declared.sleep_view.Debt.TheVariants as debt
 use Rattle.lock_one.specs.Rule.{is_shared, passes_turn}
 use Rattle.lock_one.specs.Machine.{wakes_one, has_slept, drops_turn, pauses_before, exchanges_before, word_marked, marked, withdrawn, refused, release_of, release_again, core_of, turn, has_turn, has_sleepers, sleepers, with_turn, with_sleepers, admits_word, class_of, is_brief, takes_turn, won, under_bar, Progress, acquired, after_try, decide, wait, goes_to, acquiring, begun, removes_reader, alone, frees_word, release_on, subtract, taking, wakes, next_at, next_of}
 use Rattle.lock_one.specs.Steps.{IsAt, IsWake, hold_at}
@@ -22,7 +22,7 @@ use Rattle.lock_one.specs.Answers.{releases_at, AnswersMatchHolds, FirstSteps}
 use Rattle.lock_one.proofs.Either.{of_either}
 
 -- only these stages end a call
-pub ends_not : (st : Stage) (call : Call) (v : ParkView) (b : Bool) → IsAt st call v (action.End b)
+pub ends_not : (st : Stage) (call : WordCall) (v : SleepView) (b : Bool) → IsAt st call v (action.End b)
     → ((st ≡ stage.Acquired) × (b ≡ true)) ⊎ (((st ≡ stage.Refused) × (b ≡ false)) ⊎ ((st ≡ stage.Ended) × (b ≡ true)))
 ends_not stage.Look call v b is = let e = is.1 in cc
 ends_not stage.Try call v b is = let e = is.2 in cc
@@ -30,7 +30,7 @@ ends_not stage.Pause call v b is = absurd is.1
 ends_not stage.Mark call v b is = let e = is.4 in cc
 ends_not stage.Sleep call v b is = by (nat_lt call.readers (2 ^ 27)) is.5
   where
-    by : (c : Bool) → action.End b ≡ (if c then action.Park call.loaded (class_of call.announced call.want) (is_brief call) else action.Yield)
+    by : (c : Bool) → action.End b ≡ (if c then action.Sleep call.loaded (class_of call.announced call.want) (is_brief call) else action.Yield)
         → ((stage.Sleep ≡ stage.Acquired) × (b ≡ true)) ⊎ (((stage.Sleep ≡ stage.Refused) × (b ≡ false)) ⊎ ((stage.Sleep ≡ stage.Ended) × (b ≡ true)))
     by true e = cc
     by false e = cc
@@ -57,7 +57,7 @@ ends_not stage.Ended call v b is = let e = is.1 in inr (inr (refl, cc))
 as_before : (before : Hold) → before.announced ≡ false → record before { announced = false } ≡ before
 as_before before clean = ap (λ (a : Bool). let h : Hold = record { bag = before.bag; announced = a } in h) (sym clean)
 
-refused_holds : (call : Call) (v : ParkView) (before : Hold) → before.announced ≡ false
+refused_holds : (call : WordCall) (v : SleepView) (before : Hold) → before.announced ≡ false
     → IsAt call.stage call v (action.End false) → v.held ≡ hold_at call.stage call before → v.held ≡ before
 refused_holds call v before clean is held =
     elim (ends_not call.stage call v false is) [
@@ -69,7 +69,7 @@ refused_holds call v before clean is held =
           ]
     ]
 
-acquired_holds : (call : Call) (v : ParkView) (before : Hold) → releases_at call.stage ≡ false → IsAt call.stage call v (action.End true)
+acquired_holds : (call : WordCall) (v : SleepView) (before : Hold) → releases_at call.stage ≡ false → IsAt call.stage call v (action.End true)
     → v.held ≡ hold_at call.stage call before → v.held ≡ hold_after (record before { announced = call.announced }) (step_of_want call.want)
 acquired_holds call v before acquires is held =
     elim (ends_not call.stage call v true is) [
@@ -81,7 +81,7 @@ acquired_holds call v before acquires is held =
           ]
     ]
 
-released_holds : (call : Call) (v : ParkView) (before : Hold) → releases_at call.stage ≡ true → IsAt call.stage call v (action.End true)
+released_holds : (call : WordCall) (v : SleepView) (before : Hold) → releases_at call.stage ≡ true → IsAt call.stage call v (action.End true)
     → v.held ≡ hold_at call.stage call before → v.held ≡ hold_after before (step_of_down call.down)
 released_holds call v before releases is held =
     elim (ends_not call.stage call v true is) [
@@ -98,23 +98,23 @@ released_holds call v before releases is held =
 abbrev Kind : Bool → Progress → Type 0
 Kind releases p = releases_at p.0.stage ≡ releases
 
-kind_decided : (word : ℕ) (call : Call) → Kind false (decide word call)
+kind_decided : (word : ℕ) (call : WordCall) → Kind false (decide word call)
 kind_decided word call =
-    let now : Call = record call { loaded = word } in
+    let now : WordCall = record call { loaded = word } in
     of_either (Kind false) (admits_word call.announced call.readers word call.want) _ _ refl
     (of_either (Kind false) (not call.blocks) _ _ refl
     (of_either (Kind false) call.late _ _
     (of_either (Kind false) (call.announced || drops_turn now) _ _ refl (of_either (Kind false) (wakes_one call && (has_slept call && nat_lt word sleepers)) _ _ refl refl))
     (of_either (Kind false) (nat_lt call.pauses pauses_before) _ _ refl (of_either (Kind false) (word_marked now == word) _ _ refl refl))))
 
-kind_woken : (d : Debt) (call : Call) → Kind true (wakes d call)
+kind_woken : (d : Debt) (call : WordCall) → Kind true (wakes d call)
 kind_woken debt.Nothing call = refl
 kind_woken debt.One call = refl
 kind_woken debt.All call = refl
 kind_woken debt.Next call = refl
 kind_woken debt.Turn call = refl
 
-kind_kept : (st : Stage) (found : ℕ) (call : Call) → st ≢ stage.Acquired → st ≢ stage.Refused → Kind (releases_at st) (next_at st found call)
+kind_kept : (st : Stage) (found : ℕ) (call : WordCall) → st ≢ stage.Acquired → st ≢ stage.Refused → Kind (releases_at st) (next_at st found call)
 kind_kept stage.Look found call a r = kind_decided found call
 kind_kept stage.Try found call a r =
     of_either (Kind false) (found == call.loaded) (won call) _ (of_either (Kind false) (takes_turn call call.loaded && has_sleepers call.loaded) _ _ refl refl)
@@ -139,13 +139,13 @@ kind_kept stage.Refused found call a r = absurd (r refl)
 kind_kept stage.Ended found call a r = refl
 
 -- a decision that refuses was made of a word that refuses
-decided : (call : Call) (found : ℕ) (b : Bool) → admits_word call.announced call.readers found call.want ≡ b
+decided : (call : WordCall) (found : ℕ) (b : Bool) → admits_word call.announced call.readers found call.want ≡ b
     → (if b then goes_to (record call { loaded = found; left = after_try call found }) stage.Try (action.Exchange found (after_try call found)) else wait (record call { loaded = found })).1 ≡ action.End false
     → b ≡ false
 decided call found true e h = cc
 decided call found false e h = refl
 
-refuses : (call : Call) (found : ℕ) → (call.stage ≡ stage.Look) ⊎ (call.stage ≡ stage.Try) → (next_of found call).1 ≡ action.End false
+refuses : (call : WordCall) (found : ℕ) → (call.stage ≡ stage.Look) ⊎ (call.stage ≡ stage.Try) → (next_of found call).1 ≡ action.End false
     → admits_word call.announced call.readers found call.want ≡ false
 refuses call found (inl look) h =
     decided call found (admits_word call.announced call.readers found call.want) refl (ap (λ st. (next_at st found call).1) (sym look) ∙ h)
@@ -272,7 +272,7 @@ first_removed readers word found d is low quiet =
         else if has_turn found then (true, debt.Turn)
         else (false, if readers == 1 then debt.One else debt.All)
 
-    ends : (call : Call) (b : Bool) → b ≡ false → (wakes (owed b).1 call).1 ≡ action.End true
+    ends : (call : WordCall) (b : Bool) → b ≡ false → (wakes (owed b).1 call).1 ≡ action.End true
     ends call false e = refl
     ends call true e = absurd (true≢false e)
 

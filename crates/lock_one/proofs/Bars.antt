@@ -19,12 +19,12 @@ use Rattle.lock_word.specs.Rule.{KeepsRule}
 use Rattle.lock_word.specs.Turns as turns
 use Rattle.lock_one.specs.declared.action.Action.{Action}
 use Rattle.lock_one.specs.declared.action.Action.TheVariants as action
-use Rattle.lock_one.specs.declared.call.Call.{Call}
+use Rattle.lock_one.specs.declared.call.WordCall.{WordCall}
 use Rattle.lock_one.specs.declared.stage.Stage.{Stage}
 use Rattle.lock_one.specs.declared.stage.Stage.TheVariants as stage
-use Rattle.lock_one.specs.declared.park.ParkView.{ParkView}
-use Rattle.lock_one.specs.declared.park.Debt.{Debt}
-use Rattle.lock_one.specs.declared.park.Debt.TheVariants as debt
+use Rattle.lock_one.specs.declared.sleep_view.SleepView.{SleepView}
+use Rattle.lock_one.specs.declared.sleep_view.Debt.{Debt}
+use Rattle.lock_one.specs.declared.sleep_view.Debt.TheVariants as debt
 use Rattle.lock_one.specs.declared.action.Sleeper.{Sleeper}
 use Rattle.lock_one.specs.Rule.{is_asleep, is_shared, passes_turn}
 use Rattle.lock_one.specs.Machine.{Progress, is_exclusive, core_of, has_turn, admits_word, drops_turn, takes_turn, won, has_sleepers, wakes_one, has_slept, is_due, is_brief, pauses_before, exchanges_before, word_marked, mark_or_sleep, marked, time_out, withdrawn, decide, goes_to, release_on, release_of, release_again, look_to_remove, subtract, wakes, refused, acquired, sleepers, next_at}
@@ -32,10 +32,10 @@ use Rattle.lock_one.specs.Steps.{made, touches, hold_at, Awaits, IsAt, is_step}
 use Rattle.lock_one.specs.Runs.{Underway, Thread, LockInUse, views_of, new_lock, Act, answer, limits_in, after_act}
 use Rattle.lock_one.specs.Bars.{in_use, IsLateCall, BarredCallsAreNext}
 use Rattle.lock_one.proofs.Either.{of_either}
-use Rattle.lock_one.proofs.Parking.{parties_of, party_of, party_at, rule_of}
+use Rattle.lock_one.proofs.EachStep.{parties_of, party_of, party_at, rule_of}
 use Rattle.lock_one.proofs.RunViews.{IsPlaced, RunKept, view_in}
 use Rattle.lock_one.proofs.RunSteps.{Stepped, act_holds}
-use Rattle.lock_one.proofs.Runs.{acts_kept, new_kept, sleeper_in_park, barred_was_due}
+use Rattle.lock_one.proofs.Runs.{acts_kept, new_kept, sleeper_in_call, barred_was_due}
 
 -- what a step of a call leaves of its party's holds
 
@@ -43,9 +43,9 @@ use Rattle.lock_one.proofs.Runs.{acts_kept, new_kept, sleeper_in_park, barred_wa
 abbrev pub Still : Hold → Progress → Type 0
 Still before p = (hold_at p.0.stage p.0 before).bag ≡ before.bag
 
-pub still_decided : (before : Hold) (word : ℕ) (call : Call) → Still before (decide word call)
+pub still_decided : (before : Hold) (word : ℕ) (call : WordCall) → Still before (decide word call)
 still_decided before word call =
-    let now : Call = record call { loaded = word } in
+    let now : WordCall = record call { loaded = word } in
     of_either (Still before) (admits_word call.announced call.readers word call.want) _ _ refl
     (of_either (Still before) (not call.blocks) _ _ refl
     (of_either (Still before) call.late _ _
@@ -65,7 +65,7 @@ pub same_tokens : (x y : Hold) → x.bag ≡ y.bag → tokens x.bag ≤ tokens y
 same_tokens x y e = subst (λ b. tokens b ≤ tokens y.bag) (sym e) (omega arith)
 
 -- at most one party has set the bar
-only_one : (limit core : ℕ) (views : List ParkView) (k j : ℕ) (own other : ParkView) → IsLimit limit → KeepsRule limit core (parties_of views)
+only_one : (limit core : ℕ) (views : List SleepView) (k j : ℕ) (own other : SleepView) → IsLimit limit → KeepsRule limit core (parties_of views)
     → core < 2 ^ 35 → slice_get views k ≡ Some own → own.held.announced ≡ true → j ≢ k → slice_get views j ≡ Some other → other.held.announced ≡ false
 only_one limit core views k j own other range rule small at bar apart at_j =
     false_from_ne_true other.held.announced (λ second.
@@ -94,7 +94,7 @@ upgrades own limit core want.Upgrade high awaited has admits = let some = ltb-tr
 upgrades own limit core want.Announce high awaited has admits = absurd (false≢true awaited)
 
 -- a step of a party without a bar, on a word with one
-passes_none : (st : Stage) (call : Call) (v : ParkView) (a : Action) (word found : ℕ) (before : Hold) → IsAt st call v a → v.held ≡ hold_at st call before
+passes_none : (st : Stage) (call : WordCall) (v : SleepView) (a : Action) (word found : ℕ) (before : Hold) → IsAt st call v a → v.held ≡ hold_at st call before
     → is_step st ≡ true → (IsTrue (touches a) → found ≡ word) → 2 ^ 34 ≤ core_of word → v.held.announced ≡ false
     → tokens (hold_at (next_at st found call).0.stage (next_at st found call).0 before).bag ≤ tokens v.held.bag
 passes_none st call v a word found before is held step reads high bare = by st is held step
@@ -170,11 +170,11 @@ abbrev Barred : Hold → Progress → Type 0
 Barred before p = (hold_at p.0.stage p.0 before).announced ≡ true
 
 -- a call in time keeps it
-barred_decided : (before : Hold) (word : ℕ) (call : Call) → call.announced ≡ true → call.blocks ≡ true → (b : Bool) → call.late ≡ b
+barred_decided : (before : Hold) (word : ℕ) (call : WordCall) → call.announced ≡ true → call.blocks ≡ true → (b : Bool) → call.late ≡ b
     → Barred before (decide word call) ⊎ (call.late ≡ true)
 barred_decided before word call own blocks true late = inr late
 barred_decided before word call own blocks false late =
-    let now : Call = record call { loaded = word } in
+    let now : WordCall = record call { loaded = word } in
     inl (of_either (Barred before) (admits_word call.announced call.readers word call.want) _ _ own
     (subst (λ b. Barred before (if not b then refused now else if call.late then time_out now else rest)) (sym blocks)
     (subst (λ b. Barred before (if b then time_out now else rest)) (sym late)
@@ -182,15 +182,15 @@ barred_decided before word call own blocks false late =
   where
     rest : Progress
     rest =
-        let now : Call = record call { loaded = word } in
+        let now : WordCall = record call { loaded = word } in
         if nat_lt call.pauses pauses_before then goes_to (record now { pauses = call.pauses + 1 }) stage.Pause (action.Spin (if nat_lt call.pauses 3 then call.pauses + 6 else 9)) else mark_or_sleep now
 
 -- the bar of a party after a step of its own: it stays, or the party acquires, or its deadline has passed
-abbrev Outcome : Call → Hold → Hold → Progress → Type 0
+abbrev Outcome : WordCall → Hold → Hold → Progress → Type 0
 Outcome call own before p =
     Barred before p ⊎ ((hold_at p.0.stage p.0 before ≡ hold_after own (step_of_want want.Exclusive)) ⊎ (call.late ≡ true))
 
-steps_barred : (st : Stage) (call : Call) (v : ParkView) (a : Action) (found : ℕ) (before : Hold) → IsAt st call v a → v.held ≡ hold_at st call before
+steps_barred : (st : Stage) (call : WordCall) (v : SleepView) (a : Action) (found : ℕ) (before : Hold) → IsAt st call v a → v.held ≡ hold_at st call before
     → is_step st ≡ true → before.announced ≡ false → v.held.announced ≡ true → Outcome call v.held before (next_at st found call)
 steps_barred st call v a found before is held step clean bar = by st is held step
   where
@@ -305,24 +305,24 @@ keeps_its_bar s a k own after run at bar later =
 abbrev Counts : ℕ → Progress → Type 0
 Counts n p = p.0.sleeps ≡ n
 
-counts_decided : (word : ℕ) (call : Call) → Counts call.sleeps (decide word call)
+counts_decided : (word : ℕ) (call : WordCall) → Counts call.sleeps (decide word call)
 counts_decided word call =
     let n = call.sleeps in
-    let now : Call = record call { loaded = word } in
+    let now : WordCall = record call { loaded = word } in
     of_either (Counts n) (admits_word call.announced call.readers word call.want) _ _ refl
     (of_either (Counts n) (not call.blocks) _ _ refl
     (of_either (Counts n) call.late _ _
     (of_either (Counts n) (call.announced || drops_turn now) _ _ refl (of_either (Counts n) (wakes_one call && (has_slept call && nat_lt word sleepers)) _ _ refl refl))
     (of_either (Counts n) (nat_lt call.pauses pauses_before) _ _ refl (of_either (Counts n) (word_marked now == word) _ _ refl refl))))
 
-counts_woken : (d : Debt) (call : Call) → Counts call.sleeps (wakes d call)
+counts_woken : (d : Debt) (call : WordCall) → Counts call.sleeps (wakes d call)
 counts_woken debt.Nothing call = refl
 counts_woken debt.One call = refl
 counts_woken debt.All call = refl
 counts_woken debt.Next call = refl
 counts_woken debt.Turn call = refl
 
-counts_next : (st : Stage) (found : ℕ) (call : Call) → (st ≡ stage.Sleep → ⊥) → Counts call.sleeps (next_at st found call)
+counts_next : (st : Stage) (found : ℕ) (call : WordCall) → (st ≡ stage.Sleep → ⊥) → Counts call.sleeps (next_at st found call)
 counts_next stage.Look found call other = counts_decided found call
 counts_next stage.Try found call other = of_either (Counts call.sleeps) (found == call.loaded) (won call) _
     (of_either (Counts call.sleeps) (takes_turn call call.loaded && has_sleepers call.loaded) _ _ refl refl) (counts_decided found call)
@@ -346,14 +346,14 @@ counts_next stage.Refused found call other = refl
 counts_next stage.Ended found call other = refl
 
 -- a call of a mutex is due once it has slept four times
-due_of : (call : Call) → (call.readers ≡ 1 → call.sleeps ≡ 4) → is_due call ≡ true
+due_of : (call : WordCall) → (call.readers ≡ 1 → call.sleeps ≡ 4) → is_due call ≡ true
 due_of call slept = by (call.readers == 1) refl
   where
     by : (b : Bool) → (call.readers == 1) ≡ b → (not b || (call.sleeps == 4)) ≡ true
     by true one = eq-eqb call.sleeps 4 (slept (eqb-true call.readers 1 one))
     by false many = refl
 
-slept_of : (call : Call) → is_due call ≡ true → call.readers ≡ 1 → call.sleeps ≡ 4
+slept_of : (call : WordCall) → is_due call ≡ true → call.readers ≡ 1 → call.sleeps ≡ 4
 slept_of call due one =
     eqb-true call.sleeps 4 (sym (ap (λ b. not b || (call.sleeps == 4)) (eq-eqb call.readers 1 one)) ∙ due)
 
@@ -361,20 +361,20 @@ pub kept_in : (readers : ℕ) (acts : List Act) → IsLimit readers → RunKept 
 kept_in readers acts range = acts_kept (new_lock readers) acts (new_kept readers range)
 
 asleep_under_a_bar : (s : LockInUse) (k : ℕ) (t : Thread) (u : Underway) (number : ℕ) (class : Sleeper) (brief : Bool) → RunKept s
-    → slice_get s.threads k ≡ Some t → t.underway ≡ Some u → is_asleep t.view.park ≡ true
+    → slice_get s.threads k ≡ Some t → t.underway ≡ Some u → is_asleep t.view.sleep ≡ true
     → u.at.0.announces ≡ true → u.at.0.want ≡ want.Exclusive → (u.at.0.readers ≡ 1 → u.at.0.sleeps ≡ 4)
-    → u.at.1 ≡ action.Park number class brief → 2 ^ 34 ≤ number % sleepers
-asleep_under_a_bar s k t u number class brief run at calls asleep announces wish slept parks =
-    let park = sleeper_in_park s run k t at asleep in
-    let same : u ≡ park.underway = same_Some u park.underway (sym calls ∙ park.calls) in
-    let barred = subst (λ (x : Underway). x.at.0.announces ≡ true → is_exclusive x.at.0.want ≡ true → is_due x.at.0 ≡ true → 2 ^ 34 ≤ x.at.0.loaded % sleepers) (sym same) park.barred in
+    → u.at.1 ≡ action.Sleep number class brief → 2 ^ 34 ≤ number % sleepers
+asleep_under_a_bar s k t u number class brief run at calls asleep announces wish slept asks =
+    let own = sleeper_in_call s run k t at asleep in
+    let same : u ≡ own.underway = same_Some u own.underway (sym calls ∙ own.calls) in
+    let barred = subst (λ (x : Underway). x.at.0.announces ≡ true → is_exclusive x.at.0.want ≡ true → is_due x.at.0 ≡ true → 2 ^ 34 ≤ x.at.0.loaded % sleepers) (sym same) own.barred in
     let high = barred announces (ap is_exclusive wish) (due_of u.at.0 slept) in
     let number_is : number ≡ u.at.0.loaded
-    = (park.parks number class brief (ap (λ (x : Underway). x.at.1) (sym same) ∙ parks)).0 ∙ ap (λ (x : Underway). x.at.0.loaded) (sym same) in
+    = (own.sleeps_on number class brief (ap (λ (x : Underway). x.at.1) (sym same) ∙ asks)).0 ∙ ap (λ (x : Underway). x.at.0.loaded) (sym same) in
     subst (λ n. 2 ^ 34 ≤ n % sleepers) (sym number_is) high
 
 -- a brief sleep in a mutex
-brief_of : (call : Call) → is_brief call ≡ true → call.readers ≡ 1 → (call.sleeps ≢ 0) × (call.loaded % sleepers < 2 ^ 34)
+brief_of : (call : WordCall) → is_brief call ≡ true → call.readers ≡ 1 → (call.sleeps ≢ 0) × (call.loaded % sleepers < 2 ^ 34)
 brief_of call brief one =
     let low = nat_lt (call.loaded % sleepers) (2 ^ 34) in
     let own = has_slept call && (call.announces && (is_exclusive call.want && low)) in
@@ -387,14 +387,14 @@ brief_of call brief one =
     (λ none. true≢false (sym slept.0 ∙ ap not (eq-eqb call.sleeps 0 none)), ltb-true (call.loaded % sleepers) (2 ^ 34) open_.1)
 
 brief_in_a_mutex : (s : LockInUse) (k : ℕ) (t : Thread) (u : Underway) (number : ℕ) (class : Sleeper) → RunKept s
-    → slice_get s.threads k ≡ Some t → t.underway ≡ Some u → is_asleep t.view.park ≡ true → u.at.0.readers ≡ 1
-    → u.at.1 ≡ action.Park number class true → (u.at.0.sleeps ≢ 0) × (number % sleepers < 2 ^ 34)
-brief_in_a_mutex s k t u number class run at calls asleep one parks =
-    let park = sleeper_in_park s run k t at asleep in
-    let same : u ≡ park.underway = same_Some u park.underway (sym calls ∙ park.calls) in
-    let parks_as = park.parks number class true (ap (λ (x : Underway). x.at.1) (sym same) ∙ parks) in
-    let found = brief_of u.at.0 (ap (λ (x : Underway). is_brief x.at.0) same ∙ sym parks_as.2) one in
-    let number_is : number ≡ u.at.0.loaded = parks_as.0 ∙ ap (λ (x : Underway). x.at.0.loaded) (sym same) in
+    → slice_get s.threads k ≡ Some t → t.underway ≡ Some u → is_asleep t.view.sleep ≡ true → u.at.0.readers ≡ 1
+    → u.at.1 ≡ action.Sleep number class true → (u.at.0.sleeps ≢ 0) × (number % sleepers < 2 ^ 34)
+brief_in_a_mutex s k t u number class run at calls asleep one asks =
+    let own = sleeper_in_call s run k t at asleep in
+    let same : u ≡ own.underway = same_Some u own.underway (sym calls ∙ own.calls) in
+    let alike = own.sleeps_on number class true (ap (λ (x : Underway). x.at.1) (sym same) ∙ asks) in
+    let found = brief_of u.at.0 (ap (λ (x : Underway). is_brief x.at.0) same ∙ sym alike.2) one in
+    let number_is : number ≡ u.at.0.loaded = alike.0 ∙ ap (λ (x : Underway). x.at.0.loaded) (sym same) in
     (found.0, subst (λ n. n % sleepers < 2 ^ 34) (sym number_is) found.1)
 
 pub barred_calls_are_next : BarredCallsAreNext

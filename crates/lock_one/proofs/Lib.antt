@@ -1,5 +1,5 @@
 pub mod Kept
-pub mod Parking
+pub mod EachStep
 pub mod LastAccess
 pub mod Either
 pub mod Words

@@ -1,8 +1,8 @@
 -- What a release does about S, and what it owes, pays.
 use Rattle.std.proofs.Common.{◌≡◌, ℕ, not, ◌^◌, ◌<◌, ◌≤◌, Bool, true, false, ◌||◌, ◌==◌, nat_lt, if◌then◌else◌, refl, ltb-true, ◌%◌}
-use Rattle.lock_one.specs.declared.park.ParkLimits.{ParkLimits}
-use Rattle.lock_one.specs.declared.park.Debt.{Debt}
-use Rattle.lock_one.specs.declared.park.Debt.TheVariants as debt
+use Rattle.lock_one.specs.declared.sleep_view.WordLimits.{WordLimits}
+use Rattle.lock_one.specs.declared.sleep_view.Debt.{Debt}
+use Rattle.lock_one.specs.declared.sleep_view.Debt.TheVariants as debt
 use Rattle.lock_one.specs.Machine.{core_of, has_turn, under_bar, frees_word}
 use Rattle.lock_one.proofs.Kept.{IsPaid, is_unset, is_unneeded, is_barred, is_shared_bar, is_turned, is_all, is_one, frees}
 use Rattle.lock_one.proofs.Words.{not_below}
@@ -16,7 +16,7 @@ after_bar readers word low = if not low then (true, under_bar readers word) else
 abbrev after_need : ℕ → ℕ → ℕ → Bool → Bool × Debt
 after_need readers word left frees = if not frees then (true, debt.Nothing) else after_bar readers word (nat_lt left (2 ^ 34))
 
-abbrev limits_for : ℕ → ParkLimits
+abbrev limits_for : ℕ → WordLimits
 limits_for readers = record { readers = readers; wakes_one = readers == 1 }
 
 which : (readers core left : ℕ) (t s now b : Bool) → (readers == 1) ≡ b → left < 2 ^ 34 → IsPaid (limits_for readers) core left t s now (if b then debt.One else debt.All)

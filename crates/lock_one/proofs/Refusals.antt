@@ -4,26 +4,26 @@ use Rattle.std.proofs.lemmas.Bool.{true≢false}
 use Rattle.lock_word.specs.declared.want.ExWant.TheVariants as want
 use Rattle.lock_word.specs.declared.down.Down.{Down}
 use Rattle.lock_one.specs.declared.action.Action.TheVariants as action
-use Rattle.lock_one.specs.declared.call.Call.{Call}
+use Rattle.lock_one.specs.declared.call.WordCall.{WordCall}
 use Rattle.lock_one.specs.declared.stage.Stage.{Stage}
 use Rattle.lock_one.specs.declared.stage.Stage.TheVariants as stage
-use Rattle.lock_one.specs.declared.park.Debt.{Debt}
-use Rattle.lock_one.specs.declared.park.Debt.TheVariants as debt
+use Rattle.lock_one.specs.declared.sleep_view.Debt.{Debt}
+use Rattle.lock_one.specs.declared.sleep_view.Debt.TheVariants as debt
 use Rattle.lock_one.specs.Machine.{Progress, has_sleepers, sleepers, admits_word, drops_turn, takes_turn, won, wakes_one, has_slept, word_withdrawn, pauses_before, exchanges_before, after_try, word_marked, sleep, mark_or_sleep, marked, time_out, withdrawn, refused, acquired, wait, decide, goes_to, begun, removes_reader, alone, release_on, release_of, release_again, subtract, wakes, taking, next_at}
 use Rattle.lock_one.specs.Answers.{IsLate, CauseAt, HasCause, RefusalsHaveCauses}
 use Rattle.lock_one.proofs.Either.{of_either}
 
-abbrev Clean : Call → Type 0
+abbrev Clean : WordCall → Type 0
 Clean call = call.blocks ≡ false → (call.announced ≡ false) × (call.turned ≡ false)
 
-marks_or_sleeps : (call : Call) → call.blocks ≡ true → HasCause (mark_or_sleep call).0
+marks_or_sleeps : (call : WordCall) → call.blocks ≡ true → HasCause (mark_or_sleep call).0
 marks_or_sleeps call blocks = by (word_marked call == call.loaded)
   where
     by : (b : Bool) → HasCause (if b then sleep call else goes_to (record call { left = word_marked call }) stage.Mark (action.Exchange call.loaded (word_marked call))).0
     by true = record { unannounced = λ never. absurd (true≢false (sym blocks ∙ never)); cause = tt }
     by false = record { unannounced = λ never. absurd (true≢false (sym blocks ∙ never)); cause = blocks }
 
-times_out : (call : Call) → IsLate call → HasCause (time_out call).0
+times_out : (call : WordCall) → IsLate call → HasCause (time_out call).0
 times_out call late = by (call.announced || drops_turn call)
   where
     never : Clean call
@@ -40,7 +40,7 @@ times_out call late = by (call.announced || drops_turn call)
     by true = record { unannounced = never; cause = late }
     by false = leaves (wakes_one call && (has_slept call && nat_lt call.loaded sleepers))
 
-waits : (call : Call) → Clean call → admits_word call.announced call.readers call.loaded call.want ≡ false → HasCause (wait call).0
+waits : (call : WordCall) → Clean call → admits_word call.announced call.readers call.loaded call.want ≡ false → HasCause (wait call).0
 waits call clean refuses = by call.blocks refl
   where
     pauses : call.blocks ≡ true → (b : Bool) → HasCause (if b then goes_to (record call { pauses = call.pauses + 1 }) stage.Pause (action.Spin (if nat_lt call.pauses 3 then call.pauses + 6 else 9)) else mark_or_sleep call).0
@@ -60,7 +60,7 @@ waits call clean refuses = by call.blocks refl
     }
     by true blocks = late blocks call.late refl
 
-decides : (word : ℕ) (call : Call) → Clean call → HasCause (decide word call).0
+decides : (word : ℕ) (call : WordCall) → Clean call → HasCause (decide word call).0
 decides word call clean = by (admits_word call.announced call.readers word call.want) refl
   where
     by : (b : Bool) → admits_word call.announced call.readers word call.want ≡ b
@@ -69,37 +69,37 @@ decides word call clean = by (admits_word call.announced call.readers word call.
     by false refuses = waits (record call { loaded = word }) clean refuses
 
 -- the end of an exchange that succeeded, or a decision on the word that it found
-either : (b : Bool) (p : Progress) (word : ℕ) (call : Call) → Clean call → HasCause p.0 → HasCause (if b then p else decide word call).0
+either : (b : Bool) (p : Progress) (word : ℕ) (call : WordCall) → Clean call → HasCause p.0 → HasCause (if b then p else decide word call).0
 either true p word call clean known = known
 either false p word call clean known = decides word call clean
 
-has_marked : (call : Call) → call.blocks ≡ true → HasCause (marked call).0
+has_marked : (call : WordCall) → call.blocks ≡ true → HasCause (marked call).0
 has_marked call blocks = record { unannounced = λ never. absurd (true≢false (sym blocks ∙ never)); cause = tt }
 
-has_withdrawn : (call : Call) → IsLate call → HasCause (withdrawn call).0
+has_withdrawn : (call : WordCall) → IsLate call → HasCause (withdrawn call).0
 has_withdrawn call late = by (has_sleepers call.loaded && not (wakes_one call))
   where
     by : (b : Bool) → HasCause (if b then goes_to (record call { announced = false; turned = false }) stage.WakeRefused action.WakeAll else refused (record call { announced = false; turned = false })).0
     by true = record { unannounced = λ never. (refl, refl); cause = late }
     by false = record { unannounced = λ never. (refl, refl); cause = inr late }
 
-owes : (d : Debt) (call : Call) → Clean call → HasCause (wakes d call).0
+owes : (d : Debt) (call : WordCall) → Clean call → HasCause (wakes d call).0
 owes debt.Nothing call clean = record { unannounced = clean; cause = tt }
 owes debt.One call clean = record { unannounced = clean; cause = tt }
 owes debt.All call clean = record { unannounced = clean; cause = tt }
 owes debt.Next call clean = record { unannounced = clean; cause = tt }
 owes debt.Turn call clean = record { unannounced = clean; cause = tt }
 
-releases_again : (b : Bool) (word : ℕ) (call : Call) → Clean call
+releases_again : (b : Bool) (word : ℕ) (call : WordCall) → Clean call
     → HasCause (if b then release_on word (record call { pauses = call.pauses + 1 }) else subtract call).0
 releases_again true word call clean = record { unannounced = clean; cause = tt }
 releases_again false word call clean = record { unannounced = clean; cause = tt }
 
-looks_to_remove : (b : Bool) (word : ℕ) (call : Call) → Clean call → HasCause (if b then release_on word call else subtract call).0
+looks_to_remove : (b : Bool) (word : ℕ) (call : WordCall) → Clean call → HasCause (if b then release_on word call else subtract call).0
 looks_to_remove true word call clean = record { unannounced = clean; cause = tt }
 looks_to_remove false word call clean = record { unannounced = clean; cause = tt }
 
-next : (st : Stage) (found : ℕ) (call : Call) → Clean call → CauseAt st call → HasCause (next_at st found call).0
+next : (st : Stage) (found : ℕ) (call : WordCall) → Clean call → CauseAt st call → HasCause (next_at st found call).0
 next stage.Look found call clean known = decides found call clean
 next stage.Try found call clean known = either (found == call.loaded) (won call) found call clean (has_won (takes_turn call call.loaded && has_sleepers call.loaded))
   where
@@ -138,27 +138,27 @@ begins_release readers d = by (removes_reader readers d)
 abbrev IsLateAs : Bool → Progress → Type 0
 IsLateAs late p = p.0.late ≡ late
 
-late_after_time_out : (call : Call) → IsLateAs call.late (time_out call)
+late_after_time_out : (call : WordCall) → IsLateAs call.late (time_out call)
 late_after_time_out call = of_either (IsLateAs call.late) (call.announced || drops_turn call) _ _ refl (of_either (IsLateAs call.late) (wakes_one call && (has_slept call && nat_lt call.loaded sleepers)) _ _ refl refl)
 
-late_after_wait : (call : Call) → IsLateAs call.late (wait call)
+late_after_wait : (call : WordCall) → IsLateAs call.late (wait call)
 late_after_wait call =
     of_either (IsLateAs call.late) (not call.blocks) _ _ refl
     (of_either (IsLateAs call.late) call.late _ _ (late_after_time_out call)
     (of_either (IsLateAs call.late) (nat_lt call.pauses pauses_before) _ _ refl (of_either (IsLateAs call.late) (word_marked call == call.loaded) _ _ refl refl)))
 
-late_after_decision : (word : ℕ) (call : Call) → IsLateAs call.late (decide word call)
+late_after_decision : (word : ℕ) (call : WordCall) → IsLateAs call.late (decide word call)
 late_after_decision word call =
     of_either (IsLateAs call.late) (admits_word call.announced call.readers word call.want) _ _ refl (late_after_wait (record call { loaded = word }))
 
-late_after_wake : (d : Debt) (call : Call) → IsLateAs call.late (wakes d call)
+late_after_wake : (d : Debt) (call : WordCall) → IsLateAs call.late (wakes d call)
 late_after_wake debt.Nothing call = refl
 late_after_wake debt.One call = refl
 late_after_wake debt.All call = refl
 late_after_wake debt.Next call = refl
 late_after_wake debt.Turn call = refl
 
-late_next : (st : Stage) (found : ℕ) (call : Call) → (next_at st found call).0.late ≡ true → (call.late ≡ true) ⊎ ((st ≡ stage.Sleep) × (found ≡ 1))
+late_next : (st : Stage) (found : ℕ) (call : WordCall) → (next_at st found call).0.late ≡ true → (call.late ≡ true) ⊎ ((st ≡ stage.Sleep) × (found ≡ 1))
 late_next stage.Look found call e = inl (sym (late_after_decision found call) ∙ e)
 late_next stage.Try found call e = inl (sym (of_either (IsLateAs call.late) (found == call.loaded) (won call) _ (of_either (IsLateAs call.late) (takes_turn call call.loaded && has_sleepers call.loaded) _ _ refl refl) (late_after_decision found call)) ∙ e)
 late_next stage.Pause found call e = inl e

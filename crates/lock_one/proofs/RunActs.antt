@@ -1,4 +1,4 @@
--- The calls that begin, the steps on the word and the parks keep it.
+-- The calls that begin, the steps on the word and the sleeps keep it.
 use Rattle.std.proofs.Common.{◌≡◌, ℕ, not, Bool, true, false, ◌&&◌, ◌==◌, ◌^◌, nat_lt, if◌then◌else◌, inl, inr, slice_get, slice_set, Option, Some, None, IsTrue, refl, sym, ap, subst, ◌∙◌, eqb-true}
 use Rattle.std.proofs.lemmas.Bool.{false≢true, and_parts}
 use Rattle.lock_modes.specs.declared.hold.Hold.{Hold}
@@ -13,19 +13,19 @@ use Rattle.lock_word.specs.Unblocking.{is_awaited}
 use Rattle.lock_word.proofs.Rules.{slice_set_same}
 use Rattle.lock_one.specs.declared.action.Action.{Action}
 use Rattle.lock_one.specs.declared.action.Action.TheVariants as action
-use Rattle.lock_one.specs.declared.call.Call.{Call}
+use Rattle.lock_one.specs.declared.call.WordCall.{WordCall}
 use Rattle.lock_one.specs.declared.stage.Stage.{Stage}
 use Rattle.lock_one.specs.declared.stage.Stage.TheVariants as stage
-use Rattle.lock_one.specs.declared.park.ParkLimits.{ParkLimits}
-use Rattle.lock_one.specs.declared.park.ParkView.{ParkView}
-use Rattle.lock_one.specs.declared.park.Park.TheVariants.{Asleep, Woken}
-use Rattle.lock_one.specs.declared.park.Debt.{Debt}
-use Rattle.lock_one.specs.declared.park.Debt.TheVariants as debt
+use Rattle.lock_one.specs.declared.sleep_view.WordLimits.{WordLimits}
+use Rattle.lock_one.specs.declared.sleep_view.SleepView.{SleepView}
+use Rattle.lock_one.specs.declared.sleep_view.SleepState.TheVariants.{Asleep, Woken}
+use Rattle.lock_one.specs.declared.sleep_view.Debt.{Debt}
+use Rattle.lock_one.specs.declared.sleep_view.Debt.TheVariants as debt
 use Rattle.lock_one.specs.declared.action.Sleeper.{Sleeper}
-use Rattle.lock_one.specs.Rule.{is_asleep, is_woken, with_park}
+use Rattle.lock_one.specs.Rule.{is_asleep, is_woken, with_sleep}
 use Rattle.lock_one.specs.Machine.{Progress, has_slept, class_of, is_brief, acquiring, taking, release_on, alone, removes_reader, goes_to, begun, next_at, next_of}
 use Rattle.lock_one.specs.Steps.{made, touches, ends, limits_of, hold_at, AtRest, IsPause, IsWake, IsAt, is_step, Keeps}
-use Rattle.lock_one.specs.Runs.{Underway, Thread, LockInUse, views_of, limits_in, is_idle, may_acquire, may_release, begins, view_after, goes_on, thread_after, with_thread, answer, steps_by, finds, parks_by, acquire_by, release_by}
+use Rattle.lock_one.specs.Runs.{Underway, Thread, LockInUse, views_of, limits_in, is_idle, may_acquire, may_release, begins, view_after, goes_on, thread_after, with_thread, answer, steps_by, finds, sleeps_by, acquire_by, release_by}
 use Rattle.lock_one.proofs.Steps.{steps_keep_the_rule}
 use Rattle.lock_one.proofs.Sleeps.{sleeps_keep_the_rule}
 use Rattle.lock_one.proofs.RunViews.{IsPlaced, RunKept, view_in, one_changed, keeps_woken, quiet_sleep, settled}
@@ -38,7 +38,7 @@ unchanged_views s k t u at same run =
     subst (λ vs. Keeps (limits_in s.readers) s.word vs)
     (sym (ap (λ v. slice_set (views_of s.threads) k v) same ∙ slice_set_same (views_of s.threads) k t.view (view_in s.threads k t at))) run.keeps
 
-rests_if_idle : (limits : ParkLimits) (v : ParkView) (u : Option Underway) → IsTrue (is_idle u) → IsPlaced limits v u → AtRest v × (v.held.announced ≡ false)
+rests_if_idle : (limits : WordLimits) (v : SleepView) (u : Option Underway) → IsTrue (is_idle u) → IsPlaced limits v u → AtRest v × (v.held.announced ≡ false)
 rests_if_idle limits v None h place = place
 rests_if_idle limits v (Some u) h place = absurd (false≢true h)
 
@@ -118,7 +118,7 @@ bare_after before clean down.UpgradableToShared = clean
 bare_after before clean down.Withdraw = refl
 
 -- the call has ended, or goes on
-pub goes_or_rests : (limits : ParkLimits) (next : Progress) (before : Hold) (v : ParkView) → IsAt next.0.stage next.0 v next.1
+pub goes_or_rests : (limits : WordLimits) (next : Progress) (before : Hold) (v : SleepView) → IsAt next.0.stage next.0 v next.1
     → v.held ≡ hold_at next.0.stage next.0 before → limits_of next.0 ≡ limits → before.announced ≡ false → IsPlaced limits v (goes_on next before)
 goes_or_rests limits next before v is held lock clean = by (ends next.1) refl
   where
@@ -130,7 +130,7 @@ goes_or_rests limits next before v is held lock clean = by (ends next.1) refl
         rest_goes : (a : Action) → IsPause a → ends a ≡ true → ⊥
         rest_goes action.Load h e = absurd h
         rest_goes (action.Exchange x y) h e = absurd h
-        rest_goes (action.Park n c b) h e = absurd h
+        rest_goes (action.Sleep n c b) h e = absurd h
         rest_goes (action.Subtract d) h e = absurd h
         rest_goes action.WakeOne h e = absurd h
         rest_goes action.WakeAll h e = absurd h
@@ -168,7 +168,7 @@ goes_or_rests limits next before v is held lock clean = by (ends next.1) refl
         quiet_goes : (a : Action) → IsPause a → ends a ≡ true → ⊥
         quiet_goes action.Load h e = absurd h
         quiet_goes (action.Exchange x y) h e = absurd h
-        quiet_goes (action.Park n c b) h e = absurd h
+        quiet_goes (action.Sleep n c b) h e = absurd h
         quiet_goes (action.Subtract d) h e = absurd h
         quiet_goes action.WakeOne h e = absurd h
         quiet_goes action.WakeAll h e = absurd h
@@ -197,7 +197,7 @@ goes_or_rests limits next before v is held lock clean = by (ends next.1) refl
 
 -- a step on the word
 pub step_kept : (s : LockInUse) (k given : ℕ) (t : Thread) (u : Underway) → slice_get s.threads k ≡ Some t → IsPlaced (limits_in s.readers) t.view (Some u)
-    → is_step u.at.0.stage ≡ true → is_asleep t.view.park ≡ false → (IsTrue (is_woken t.view.park) → has_slept u.at.0 ≡ true) → RunKept s
+    → is_step u.at.0.stage ≡ true → is_asleep t.view.sleep ≡ false → (IsTrue (is_woken t.view.sleep) → has_slept u.at.0 ≡ true) → RunKept s
     → RunKept (steps_by s k given t u)
 step_kept s k given t u at place stepping awake woken run =
     let call = u.at.0 in
@@ -207,29 +207,29 @@ step_kept s k given t u at place stepping awake woken run =
     let views = views_of s.threads in
     let here = view_in s.threads k t at in
     let lock = place.2 in
-    let range : IsLimit call.readers = subst (λ (l : ParkLimits). IsLimit l.readers) (sym lock) run.range in
+    let range : IsLimit call.readers = subst (λ (l : WordLimits). IsLimit l.readers) (sym lock) run.range in
     let keeps : Keeps (limits_of call) s.word views = subst (λ l. Keeps l s.word views) (sym lock) run.keeps in
     let kept = steps_keep_the_rule s.word views k t.view call a found u.before range keeps here place.0 place.1 stepping (reads (touches a)) in
-    let same_limits : limits_of next.0 ≡ limits_of call = ap (λ (p : ParkLimits × ℕ). p.0) kept.same_lock in
-    let same_slept : has_slept next.0 ≡ has_slept call = ap (λ (p : ParkLimits × ℕ). not (p.1 == 0)) kept.same_lock in
-    let to = settled next.0.stage next.0 kept.you next.1 t.view.park (hold_at next.0.stage next.0 u.before) kept.at kept.held kept.parked awake
+    let same_limits : limits_of next.0 ≡ limits_of call = ap (λ (p : WordLimits × ℕ). p.0) kept.same_lock in
+    let same_slept : has_slept next.0 ≡ has_slept call = ap (λ (p : WordLimits × ℕ). not (p.1 == 0)) kept.same_lock in
+    let to = settled next.0.stage next.0 kept.you next.1 t.view.sleep (hold_at next.0.stage next.0 u.before) kept.at kept.held kept.same_or_awake awake
     (λ w. same_slept ∙ woken w) in
-    let w = view_after next t.view.park u.before in
+    let w = view_after next t.view.sleep u.before in
     let later : Keeps (limits_of call) (made a s.word) (slice_set views k w)
     = elim to.either [
-      | inl e ↦ subst (λ (v : ParkView). Keeps (limits_of call) (made a s.word) (slice_set views k v)) (sym e) kept.keeps
-      | inr e ↦ subst (λ (v : ParkView). Keeps (limits_of call) (made a s.word) (slice_set views k v)) (sym e)
+      | inl e ↦ subst (λ (v : SleepView). Keeps (limits_of call) (made a s.word) (slice_set views k v)) (sym e) kept.keeps
+      | inr e ↦ subst (λ (v : SleepView). Keeps (limits_of call) (made a s.word) (slice_set views k v)) (sym e)
           (keeps_woken (limits_of call) (made a s.word) views k t.view kept.you range here kept.keeps)
     ] in
-    one_changed s (made a s.word) k (thread_after next t.view.park u.before) run (subst (λ l. Keeps l (made a s.word) (slice_set views k w)) lock later)
+    one_changed s (made a s.word) k (thread_after next t.view.sleep u.before) run (subst (λ l. Keeps l (made a s.word) (slice_set views k w)) lock later)
     (goes_or_rests (limits_in s.readers) next u.before w to.at refl (same_limits ∙ lock) place.4)
   where
     reads : (b : Bool) → IsTrue b → (if b then s.word else given) ≡ s.word
     reads true h = refl
     reads false h = absurd (false≢true h)
 
-pub awake_at : (st : Stage) (call : Call) (v : ParkView) (a : Action) → IsAt st call v a → is_step st ≡ true
-    → (is_asleep v.park ≡ false) × (IsTrue (is_woken v.park) → has_slept call ≡ true)
+pub awake_at : (st : Stage) (call : WordCall) (v : SleepView) (a : Action) → IsAt st call v a → is_step st ≡ true
+    → (is_asleep v.sleep ≡ false) × (IsTrue (is_woken v.sleep) → has_slept call ≡ true)
 awake_at stage.Look call v a is h = (is.0.1, is.0.0.woken)
 awake_at stage.Try call v a is h = (is.0.1, is.0.0.woken)
 awake_at stage.Pause call v a is h = (is.0.1, is.0.0.woken)
@@ -247,38 +247,38 @@ awake_at stage.Acquired call v a is h = absurd (false≢true h)
 awake_at stage.Refused call v a is h = absurd (false≢true h)
 awake_at stage.Ended call v a is h = absurd (false≢true h)
 
--- a park finds the loaded word
-found_loaded : (few : Bool) (class : Sleeper) (brief : Bool) (n word : ℕ) → finds (if few then action.Park n class brief else action.Yield) word ≡ true → word ≡ n
+-- a sleep finds the loaded word
+found_loaded : (few : Bool) (class : Sleeper) (brief : Bool) (n word : ℕ) → finds (if few then action.Sleep n class brief else action.Yield) word ≡ true → word ≡ n
 found_loaded true class brief n word e = eqb-true word n e
 found_loaded false class brief n word e = absurd (false≢true e)
 
--- a park
-pub park_kept : (s : LockInUse) (k given : ℕ) (t : Thread) (u : Underway) → slice_get s.threads k ≡ Some t → IsAt stage.Sleep u.at.0 t.view u.at.1
+-- a sleep
+pub sleep_kept : (s : LockInUse) (k given : ℕ) (t : Thread) (u : Underway) → slice_get s.threads k ≡ Some t → IsAt stage.Sleep u.at.0 t.view u.at.1
     → t.view.held ≡ hold_at stage.Sleep u.at.0 u.before → limits_of u.at.0 ≡ limits_in s.readers → u.before.announced ≡ false → u.at.0.stage ≡ stage.Sleep → t.underway ≡ Some u → RunKept s
-    → RunKept (parks_by s k given t u)
-park_kept s k given t u at is held lock clean sleeps calls run =
-    by ((given == 0) && (finds u.at.1 s.word && not (is_asleep t.view.park))) refl
+    → RunKept (sleeps_by s k given t u)
+sleep_kept s k given t u at is held lock clean sleeps calls run =
+    by ((given == 0) && (finds u.at.1 s.word && not (is_asleep t.view.sleep))) refl
   where
-    call : Call
+    call : WordCall
     call = u.at.0
 
     range : IsLimit u.at.0.readers
-    range = subst (λ (l : ParkLimits). IsLimit l.readers) (sym lock) run.range
+    range = subst (λ (l : WordLimits). IsLimit l.readers) (sym lock) run.range
 
     keeps : Keeps (limits_of u.at.0) s.word (views_of s.threads)
     keeps = subst (λ l. Keeps l s.word (views_of s.threads)) (sym lock) run.keeps
 
-    by : (b : Bool) → ((given == 0) && (finds u.at.1 s.word && not (is_asleep t.view.park))) ≡ b
-        → RunKept (if b then with_thread s k (record t { view = with_park t.view (Asleep u.at.0.want) })
-        else with_thread s k record { view = with_park t.view Woken; underway = goes_on (next_at stage.Sleep given u.at.0) u.before })
+    by : (b : Bool) → ((given == 0) && (finds u.at.1 s.word && not (is_asleep t.view.sleep))) ≡ b
+        → RunKept (if b then with_thread s k (record t { view = with_sleep t.view (Asleep u.at.0.want) })
+        else with_thread s k record { view = with_sleep t.view Woken; underway = goes_on (next_at stage.Sleep given u.at.0) u.before })
     by true e =
-        let one = and_parts (given == 0) (finds u.at.1 s.word && not (is_asleep t.view.park)) e in
-        let two = and_parts (finds u.at.1 s.word) (not (is_asleep t.view.park)) one.1 in
+        let one = and_parts (given == 0) (finds u.at.1 s.word && not (is_asleep t.view.sleep)) e in
+        let two = and_parts (finds u.at.1 s.word) (not (is_asleep t.view.sleep)) one.1 in
         let word : s.word ≡ u.at.0.loaded
         = found_loaded (nat_lt call.readers (2 ^ 27)) (class_of call.announced call.want) (is_brief call) call.loaded s.word (subst (λ a. finds a s.word ≡ true) is.5 two.0) in
         let asleep = sleeps_keep_the_rule.falls_asleep (views_of s.threads) k t.view u.at.0 u.at.1 range
         (subst (λ n. Keeps (limits_of u.at.0) n (views_of s.threads)) word keeps) (view_in s.threads k t at) is in
-        let v = with_park t.view (Asleep u.at.0.want) in
+        let v = with_sleep t.view (Asleep u.at.0.want) in
         one_changed s s.word k (record t { view = v }) run
         (subst (λ l. Keeps l s.word (slice_set (views_of s.threads) k v)) lock
         (subst (λ n. Keeps (limits_of u.at.0) n (slice_set (views_of s.threads) k v)) (sym word) asleep.0))
@@ -291,7 +291,7 @@ park_kept s k given t u at is held lock clean sleeps calls run =
         ))
     by false e =
         let woken = sleeps_keep_the_rule.sleep_ends s.word (views_of s.threads) k t.view u.at.0 u.at.1 given range keeps (view_in s.threads k t at) is in
-        let v = with_park t.view Woken in
+        let v = with_sleep t.view Woken in
         one_changed s s.word k record { view = v; underway = goes_on (next_at stage.Sleep given u.at.0) u.before } run
         (subst (λ l. Keeps l s.word (slice_set (views_of s.threads) k v)) lock woken.0)
         (goes_or_rests (limits_in s.readers) (next_at stage.Sleep given u.at.0) u.before v woken.1 held lock clean)

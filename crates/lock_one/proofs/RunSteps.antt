@@ -9,13 +9,13 @@ use Rattle.lock_one.specs.declared.action.Action.{Action}
 use Rattle.lock_one.specs.declared.action.Action.TheVariants as action
 use Rattle.lock_one.specs.declared.stage.Stage.{Stage}
 use Rattle.lock_one.specs.declared.stage.Stage.TheVariants as stage
-use Rattle.lock_one.specs.declared.park.ParkView.{ParkView}
-use Rattle.lock_one.specs.declared.park.Park.TheVariants.{Asleep, Woken}
-use Rattle.lock_one.specs.Rule.{holds_of, is_asleep, with_park, wake_all, wake_next, wake_turn}
+use Rattle.lock_one.specs.declared.sleep_view.SleepView.{SleepView}
+use Rattle.lock_one.specs.declared.sleep_view.SleepState.TheVariants.{Asleep, Woken}
+use Rattle.lock_one.specs.Rule.{holds_of, is_asleep, with_sleep, wake_all, wake_next, wake_turn}
 use Rattle.lock_one.specs.Machine.{acquiring, taking, next_at, next_of}
 use Rattle.lock_one.specs.Steps.{made, ends, hold_at, IsAt, is_step}
-use Rattle.lock_one.specs.Runs.{Underway, Thread, LockInUse, views_of, new_thread, Act, join, acquires, releases, steps, begins, may_acquire, may_release, thread_after, with_thread, view_to, any_asleep, answer, finds, goes_on, limits_in, steps_by, parks_by, paid, wake_at, wakes_by, step_at, step_in, step_by, acquire_by, release_by, after_act}
-use Rattle.lock_one.proofs.Parking.{holds_of-set, mapped_holds}
+use Rattle.lock_one.specs.Runs.{Underway, Thread, LockInUse, views_of, new_thread, Act, join, acquires, releases, steps, begins, may_acquire, may_release, thread_after, with_thread, view_to, any_asleep, answer, finds, goes_on, limits_in, steps_by, sleeps_by, paid, wake_at, wakes_by, step_at, step_in, step_by, acquire_by, release_by, after_act}
+use Rattle.lock_one.proofs.EachStep.{holds_of-set, mapped_holds}
 use Rattle.lock_one.proofs.RunViews.{IsPlaced, RunKept, views_set, view_in}
 use Rattle.lock_one.proofs.RunWakes.{views_map}
 
@@ -25,7 +25,7 @@ abbrev pub held_in : List Thread → List Hold
 held_in threads = holds_of (views_of threads)
 
 pub held_at : (ts : List Thread) (k : ℕ) (t : Thread) → slice_get ts k ≡ Some t → slice_get (held_in ts) k ≡ Some t.view.held
-held_at ts k t at = rw (slice_get-map (λ (v : ParkView). v.held) (views_of ts) k, view_in ts k t at)
+held_at ts k t at = rw (slice_get-map (λ (v : SleepView). v.held) (views_of ts) k, view_in ts k t at)
 
 set_same : (ts : List Thread) (k : ℕ) (x : Thread) → slice_get (held_in ts) k ≡ Some x.view.held → held_in (slice_set ts k x) ≡ held_in ts
 set_same ts k x at =
@@ -37,7 +37,7 @@ pub same_at : (ts us : List Thread) → held_in us ≡ held_in ts → (j : ℕ) 
 same_at ts us same j before after at later =
     same_Some after.view.held before.view.held (sym (held_at us j after later) ∙ (ap (λ hs. slice_get hs j) same ∙ held_at ts j before at))
 
-pub woken_many : (f : ParkView → ParkView) → ((v : ParkView) → (f v).held ≡ v.held) → (ts : List Thread) → held_in (map (view_to f) ts) ≡ held_in ts
+pub woken_many : (f : SleepView → SleepView) → ((v : SleepView) → (f v).held ≡ v.held) → (ts : List Thread) → held_in (map (view_to f) ts) ≡ held_in ts
 woken_many f same ts = ap (λ vs. holds_of vs) (views_map f ts) ∙ mapped_holds f (views_of ts) same
 
 -- no word has changed, and no thread's holds
@@ -58,10 +58,10 @@ wakes_quietly s k j t u a at = by a
 
     one : (o : Option Thread) → slice_get s.threads j ≡ o → Quiet s (wake_at s k j t u o)
     one None e = none (any_asleep s.threads)
-    one (Some w) e = some (is_asleep w.view.park)
+    one (Some w) e = some (is_asleep w.view.sleep)
       where
-        some : (b : Bool) → Quiet s (if b then paid (with_thread s j (view_to (λ v. with_park v Woken) w)) k t u else if any_asleep s.threads then s else paid s k t u)
-        some true = (refl, pays (slice_set s.threads j (view_to (λ v. with_park v Woken) w)) _ (set_same s.threads j (view_to (λ v. with_park v Woken) w) (held_at s.threads j w e)) refl)
+        some : (b : Bool) → Quiet s (if b then paid (with_thread s j (view_to (λ v. with_sleep v Woken) w)) k t u else if any_asleep s.threads then s else paid s k t u)
+        some true = (refl, pays (slice_set s.threads j (view_to (λ v. with_sleep v Woken) w)) _ (set_same s.threads j (view_to (λ v. with_sleep v Woken) w) (held_at s.threads j w e)) refl)
         some false = none (any_asleep s.threads)
 
     by : (a : Action) → Quiet s (wakes_by s k j t u a)
@@ -72,16 +72,16 @@ wakes_quietly s k j t u a at = by a
     by action.Load = one (slice_get s.threads j) refl
     by (action.Exchange x y) = one (slice_get s.threads j) refl
     by (action.Subtract d) = one (slice_get s.threads j) refl
-    by (action.Park n c b) = one (slice_get s.threads j) refl
+    by (action.Sleep n c b) = one (slice_get s.threads j) refl
     by (action.Spin n) = one (slice_get s.threads j) refl
     by action.Yield = one (slice_get s.threads j) refl
     by (action.End b) = one (slice_get s.threads j) refl
 
-parks_quietly : (s : LockInUse) (k given : ℕ) (t : Thread) (u : Underway) → slice_get s.threads k ≡ Some t → Quiet s (parks_by s k given t u)
-parks_quietly s k given t u at = by ((given == 0) && (finds u.at.1 s.word && not (is_asleep t.view.park)))
+sleeps_quietly : (s : LockInUse) (k given : ℕ) (t : Thread) (u : Underway) → slice_get s.threads k ≡ Some t → Quiet s (sleeps_by s k given t u)
+sleeps_quietly s k given t u at = by ((given == 0) && (finds u.at.1 s.word && not (is_asleep t.view.sleep)))
   where
-    by : (b : Bool) → Quiet s (if b then with_thread s k (record t { view = with_park t.view (Asleep u.at.0.want) })
-        else with_thread s k record { view = with_park t.view Woken; underway = goes_on (next_at stage.Sleep given u.at.0) u.before })
+    by : (b : Bool) → Quiet s (if b then with_thread s k (record t { view = with_sleep t.view (Asleep u.at.0.want) })
+        else with_thread s k record { view = with_sleep t.view Woken; underway = goes_on (next_at stage.Sleep given u.at.0) u.before })
     by true = (refl, set_same s.threads k _ (held_at s.threads k t at))
     by false = (refl, set_same s.threads k _ (held_at s.threads k t at))
 
@@ -101,7 +101,7 @@ pub record MadeBy (s after : LockInUse) (a : Act) : Type 0 where
 -- the thread after its step
 abbrev pub thread_made : (s after : LockInUse) (a : Act) → MadeBy s after a → Thread
 thread_made s after a made =
-    thread_after (next_of (answer made.underway.at.1 s.word made.given) made.underway.at.0) made.own.view.park made.underway.before
+    thread_after (next_of (answer made.underway.at.1 s.word made.given) made.underway.at.0) made.own.view.sleep made.underway.before
 
 step_makes : (s : LockInUse) (k given j : ℕ) (t : Thread) (o : Option Underway) → slice_get s.threads k ≡ Some t → t.underway ≡ o
     → IsPlaced (limits_in s.readers) t.view o → Quiet s (step_in s k given j t o) ⊎ MadeBy s (step_in s k given j t o) (steps k given j)
@@ -119,7 +119,7 @@ step_makes s k given j t (Some u) at calls place = at_stage u.at.0.stage refl pl
     at_stage stage.Try e is = makes_step (ap is_step e)
     at_stage stage.Pause e is = makes_step (ap is_step e)
     at_stage stage.Mark e is = makes_step (ap is_step e)
-    at_stage stage.Sleep e is = inl (parks_quietly s k given t u at)
+    at_stage stage.Sleep e is = inl (sleeps_quietly s k given t u at)
     at_stage stage.Withdraw e is = makes_step (ap is_step e)
     at_stage stage.Leave e is = makes_step (ap is_step e)
     at_stage stage.LookToRemove e is = makes_step (ap is_step e)

@@ -14,21 +14,21 @@ use Rattle.lock_word.proofs.Rules.{amount_within}
 use Rattle.lock_word.proofs.Lists.{placed, in_longer, other_stays}
 use Rattle.lock_one.specs.declared.action.Action.{Action}
 use Rattle.lock_one.specs.declared.action.Action.TheVariants as action
-use Rattle.lock_one.specs.declared.call.Call.{Call}
+use Rattle.lock_one.specs.declared.call.WordCall.{WordCall}
 use Rattle.lock_one.specs.declared.stage.Stage.{Stage}
 use Rattle.lock_one.specs.declared.stage.Stage.TheVariants as stage
-use Rattle.lock_one.specs.declared.park.ParkView.{ParkView}
-use Rattle.lock_one.specs.declared.park.Park.TheVariants.{Asleep, Woken}
-use Rattle.lock_one.specs.Rule.{is_asleep, is_shared, passes_turn, with_park, wake_all, wake_next, wake_turn}
+use Rattle.lock_one.specs.declared.sleep_view.SleepView.{SleepView}
+use Rattle.lock_one.specs.declared.sleep_view.SleepState.TheVariants.{Asleep, Woken}
+use Rattle.lock_one.specs.Rule.{is_asleep, is_shared, passes_turn, with_sleep, wake_all, wake_next, wake_turn}
 use Rattle.lock_one.specs.Machine.{Progress, is_exclusive, turn, sleepers, core_of, has_turn, has_sleepers, with_turn, admits_word, wakes_one, has_slept, is_due, pauses_before, sets_bar, sets_turn, word_marked, sleep, mark_or_sleep, marked, drops_turn, word_unbarred, word_withdrawn, time_out, withdrawn, takes_turn, after_other, after_try, won, decide, goes_to, acquiring, taking, refused, word_released, release_of, next_at}
 use Rattle.lock_one.specs.Steps.{made, touches, ends, Acquires, Awaits, IsAt, is_step}
 use Rattle.lock_one.specs.Runs.{Underway, Thread, LockInUse, views_of, limits_in, new_thread, new_lock, Act, join, acquires, releases, steps, turned_at, begins, may_acquire, may_release, is_idle, with_thread, view_to, any_asleep, answer, finds, goes_on, steps_by, paid, wake_at, wakes_by, step_at, step_in, step_by, acquire_by, release_by, after_act, after_acts, IsTurnOf, SomeoneTurns, ThreadsAreServed, EveryRunIsServed}
 use Rattle.lock_one.proofs.Either.{of_either}
-use Rattle.lock_one.proofs.Parking.{parties_of, party_of, party_at, rule_of}
+use Rattle.lock_one.proofs.EachStep.{parties_of, party_of, party_at, rule_of}
 use Rattle.lock_one.proofs.Sleeps.{refused_at_rest}
 use Rattle.lock_one.proofs.Words.{encoded, encoded_turn, lessened, dropped, no_both, low_is, rest_leaves, small_core}
 use Rattle.lock_one.proofs.RunViews.{IsPlaced, RunKept, view_in, quiet_sleep, owes_at}
-use Rattle.lock_one.proofs.Runs.{act_kept, acts_kept, new_kept, sleeper_in_park, barred_was_due}
+use Rattle.lock_one.proofs.Runs.{act_kept, acts_kept, new_kept, sleeper_in_call, barred_was_due}
 
 -- whether a call under way has set T, and goes on
 abbrev pub flag : Option Underway → Bool
@@ -64,11 +64,11 @@ this_owns ts k t x at own = record { number = k; thread = x; is = placed ts k t 
 abbrev Flag : Hold → Progress → Type 0
 Flag before p = flag (goes_on p before) ≡ true
 
-flag_sleep : (before : Hold) (call : Call) → call.turned ≡ true → Flag before (sleep call)
+flag_sleep : (before : Hold) (call : WordCall) → call.turned ≡ true → Flag before (sleep call)
 flag_sleep before call own =
     ap (λ (b : Bool). flag (if b then None else Some record { at = sleep call; before = before })) (quiet_sleep call).1 ∙ own
 
-flag_decided : (before : Hold) (word : ℕ) (call : Call) → call.turned ≡ true → call.blocks ≡ true → has_turn word ≡ true → Flag before (decide word call)
+flag_decided : (before : Hold) (word : ℕ) (call : WordCall) → call.turned ≡ true → call.blocks ≡ true → has_turn word ≡ true → Flag before (decide word call)
 flag_decided before word call own blocks set =
     of_either (Flag before) (admits_word call.announced call.readers word call.want) _ _ own
     (subst (λ b. Flag before (if not b then refused now else if call.late then time_out now else rest)) (sym blocks)
@@ -77,7 +77,7 @@ flag_decided before word call own blocks set =
     (of_either (Flag before) (nat_lt call.pauses pauses_before) _ _ own
     (of_either (Flag before) (word_marked now == word) (sleep now) _ (flag_sleep before now own) own))))
   where
-    now : Call
+    now : WordCall
     now = record call { loaded = word }
 
     rest : Progress
@@ -105,7 +105,7 @@ after_small a limit core want.Upgrade h small =
     ]
 after_small a limit core want.Announce h small = let low = ltb-true core (2 ^ 34) h in omega arith
 
-module _ (call : Call) (v : ParkView) (before : Hold) (word : ℕ) (small : word < 2 ^ 37) (core_small : core_of word < 2 ^ 35)
+module _ (call : WordCall) (v : SleepView) (before : Hold) (word : ℕ) (small : word < 2 ^ 37) (core_small : core_of word < 2 ^ 35)
     (no_turn : IsTrue (wakes_one call) → has_turn word ≡ false)
     (within : (d : Down) → IsTrue (hold_has v.held (step_of_down d)) → amount d ≤ core_of word) where
   -- after a step that leaves T set, the call has set T; or T was set before, by another
@@ -248,7 +248,7 @@ module _ (call : Call) (v : ParkView) (before : Hold) (word : ℕ) (small : word
 
 -- the acts
 
-mapped_owner : (f : ParkView → ParkView) (ts : List Thread) → Owner ts → Owner (map (view_to f) ts)
+mapped_owner : (f : SleepView → SleepView) (ts : List Thread) → Owner ts → Owner (map (view_to f) ts)
 mapped_owner f ts o = record { number = o.number; thread = view_to f o.thread; is = rw (slice_get-map (view_to f) ts o.number, o.is); has = o.has }
 
 -- a thread that makes a wake-up has not set T
@@ -265,32 +265,32 @@ wakes_owned s k j t u a at none o = by a
 
     one : (w : Option Thread) → slice_get s.threads j ≡ w → Owner (wake_at s k j t u w).threads
     one None e = nobody (any_asleep s.threads)
-    one (Some w) e = some (is_asleep w.view.park)
+    one (Some w) e = some (is_asleep w.view.sleep)
       where
         x : Thread
-        x = view_to (λ v. with_park v Woken) w
+        x = view_to (λ v. with_sleep v Woken) w
 
-        mid : Owner (slice_set s.threads j (view_to (λ v. with_park v Woken) w))
+        mid : Owner (slice_set s.threads j (view_to (λ v. with_sleep v Woken) w))
         mid = other_owns s.threads j w _ e o (λ own. own)
 
-        there : (y : Thread) × (slice_get (slice_set s.threads j (view_to (λ v. with_park v Woken) w)) k ≡ Some y) × (flag y.underway ≡ false)
+        there : (y : Thread) × (slice_get (slice_set s.threads j (view_to (λ v. with_sleep v Woken) w)) k ≡ Some y) × (flag y.underway ≡ false)
         there =
             elim (cases_eq k j) [
               | inl same ↦
                   (let is_t : w ≡ t = same_Some w t (sym e ∙ (ap (λ n. slice_get s.threads n) (sym same) ∙ at)) in (
-                    view_to (λ v. with_park v Woken) w,
-                    subst (λ n. slice_get (slice_set s.threads j (view_to (λ v. with_park v Woken) w)) n ≡ Some (view_to (λ v. with_park v Woken) w)) (sym same)
-                        (placed s.threads j w (view_to (λ v. with_park v Woken) w) e),
+                    view_to (λ v. with_sleep v Woken) w,
+                    subst (λ n. slice_get (slice_set s.threads j (view_to (λ v. with_sleep v Woken) w)) n ≡ Some (view_to (λ v. with_sleep v Woken) w)) (sym same)
+                        (placed s.threads j w (view_to (λ v. with_sleep v Woken) w) e),
                     ap (λ (y : Thread). flag y.underway) is_t ∙ none,
                   ))
-              | inr other ↦ (t, other_stays s.threads j k (view_to (λ v. with_park v Woken) w) t other at, none)
+              | inr other ↦ (t, other_stays s.threads j k (view_to (λ v. with_sleep v Woken) w) t other at, none)
             ]
 
-        some : (b : Bool) → Owner (if b then paid (with_thread s j (view_to (λ v. with_park v Woken) w)) k t u else if any_asleep s.threads then s else paid s k t u).threads
-        some true = pays (slice_set s.threads j (view_to (λ v. with_park v Woken) w)) there.0 _ there.1 there.2 mid
+        some : (b : Bool) → Owner (if b then paid (with_thread s j (view_to (λ v. with_sleep v Woken) w)) k t u else if any_asleep s.threads then s else paid s k t u).threads
+        some true = pays (slice_set s.threads j (view_to (λ v. with_sleep v Woken) w)) there.0 _ there.1 there.2 mid
         some false = nobody (any_asleep s.threads)
 
-    many : (f : ParkView → ParkView) (y : Thread) → Owner (slice_set (map (view_to f) s.threads) k y)
+    many : (f : SleepView → SleepView) (y : Thread) → Owner (slice_set (map (view_to f) s.threads) k y)
     many f y = pays (map (view_to f) s.threads) (view_to f t) y (rw (slice_get-map (view_to f) s.threads k, at)) none (mapped_owner f s.threads o)
 
     by : (a : Action) → Owner (wakes_by s k j t u a).threads
@@ -301,7 +301,7 @@ wakes_owned s k j t u a at none o = by a
     by action.Load = one (slice_get s.threads j) refl
     by (action.Exchange x y) = one (slice_get s.threads j) refl
     by (action.Subtract d) = one (slice_get s.threads j) refl
-    by (action.Park n c b) = one (slice_get s.threads j) refl
+    by (action.Sleep n c b) = one (slice_get s.threads j) refl
     by (action.Spin n) = one (slice_get s.threads j) refl
     by action.Yield = one (slice_get s.threads j) refl
     by (action.End b) = one (slice_get s.threads j) refl
@@ -316,9 +316,9 @@ wakes_leave s k j t u a = by a
 
     one : (w : Option Thread) → (wake_at s k j t u w).word ≡ s.word
     one None = nobody (any_asleep s.threads)
-    one (Some w) = some (is_asleep w.view.park)
+    one (Some w) = some (is_asleep w.view.sleep)
       where
-        some : (b : Bool) → (if b then paid (with_thread s j (view_to (λ v. with_park v Woken) w)) k t u else if any_asleep s.threads then s else paid s k t u).word ≡ s.word
+        some : (b : Bool) → (if b then paid (with_thread s j (view_to (λ v. with_sleep v Woken) w)) k t u else if any_asleep s.threads then s else paid s k t u).word ≡ s.word
         some true = refl
         some false = nobody (any_asleep s.threads)
 
@@ -330,7 +330,7 @@ wakes_leave s k j t u a = by a
     by action.Load = one (slice_get s.threads j)
     by (action.Exchange x y) = one (slice_get s.threads j)
     by (action.Subtract d) = one (slice_get s.threads j)
-    by (action.Park n c b) = one (slice_get s.threads j)
+    by (action.Sleep n c b) = one (slice_get s.threads j)
     by (action.Spin n) = one (slice_get s.threads j)
     by action.Yield = one (slice_get s.threads j)
     by (action.End b) = one (slice_get s.threads j)
@@ -340,7 +340,7 @@ step_owned : (s : LockInUse) (k given j : ℕ) (t : Thread) (o : Option Underway
 step_owned s k given j t None at calls place run owned = owned
 step_owned s k given j t (Some u) at calls place run owned = by u.at.0.stage refl place.0
   where
-    call : Call
+    call : WordCall
     call = u.at.0
 
     over : (b : Bool) → u.at.1 ≡ action.End b → TurnOwned (steps_by s k given t u)
@@ -368,11 +368,11 @@ step_owned s k given j t (Some u) at calls place run owned = by u.at.0.stage ref
     waking : turned_at u.at.0.stage u.at.0.turned ≡ false → TurnOwned (wakes_by s k j t u u.at.1)
     waking none set = wakes_owned s k j t u u.at.1 at (ap flag calls ∙ none) (owned (ap has_turn (sym (wakes_leave s k j t u u.at.1)) ∙ set))
 
-    parks : u.at.0.stage ≡ stage.Sleep → (b : Bool)
-        → TurnOwned (if b then with_thread s k (record t { view = with_park t.view (Asleep u.at.0.want) })
-        else with_thread s k record { view = with_park t.view Woken; underway = goes_on (next_at stage.Sleep given u.at.0) u.before })
-    parks e true set = other_owns s.threads k t _ at (owned set) (λ own. own)
-    parks e false set =
+    sleeps_owned : u.at.0.stage ≡ stage.Sleep → (b : Bool)
+        → TurnOwned (if b then with_thread s k (record t { view = with_sleep t.view (Asleep u.at.0.want) })
+        else with_thread s k record { view = with_sleep t.view Woken; underway = goes_on (next_at stage.Sleep given u.at.0) u.before })
+    sleeps_owned e true set = other_owns s.threads k t _ at (owned set) (λ own. own)
+    sleeps_owned e false set =
         other_owns s.threads k t _ at (owned set) (λ own. ap (λ st. turned_at st u.at.0.turned) (sym e) ∙ (sym (ap flag calls) ∙ own))
 
     by : (st : Stage) → u.at.0.stage ≡ st → IsAt st u.at.0 t.view u.at.1 → TurnOwned (step_at st s k given j t u)
@@ -380,7 +380,7 @@ step_owned s k given j t (Some u) at calls place run owned = by u.at.0.stage ref
     by stage.Try e is = on (ap is_step e)
     by stage.Pause e is = on (ap is_step e)
     by stage.Mark e is = on (ap is_step e)
-    by stage.Sleep e is = parks e ((given == 0) && (finds u.at.1 s.word && not (is_asleep t.view.park)))
+    by stage.Sleep e is = sleeps_owned e ((given == 0) && (finds u.at.1 s.word && not (is_asleep t.view.sleep)))
     by stage.Withdraw e is = on (ap is_step e)
     by stage.Leave e is = on (ap is_step e)
     by stage.LookToRemove e is = on (ap is_step e)
@@ -437,7 +437,7 @@ pub acts_owned : (readers : ℕ) (acts : List Act) → IsLimit readers → TurnO
 acts_owned readers acts range = owned_after (new_lock readers) acts (new_kept readers range) (λ never. absurd (false≢true never))
 
 -- a call that has set T is that of a reader, and blocks
-turns_at : (st : Stage) (call : Call) (v : ParkView) (a : Action) → IsAt st call v a → turned_at st call.turned ≡ true
+turns_at : (st : Stage) (call : WordCall) (v : SleepView) (a : Action) → IsAt st call v a → turned_at st call.turned ≡ true
     → (is_shared call.want ≡ true) × (call.blocks ≡ true)
 turns_at st call v a is own = by st is own
   where
@@ -489,7 +489,7 @@ served s run owned =
       at_rest = λ k v want at asleep. refused_at_rest (limits_in s.readers) s.word (views_of s.threads) k v want run.keeps at asleep;
       turn_owned = λ set. someone_turns s run (owned set);
       no_turn = λ one. run.keeps.kept.no_turn (eq-eqb s.readers 1 one);
-      parked = sleeper_in_park s run;
+      sleeps_in_call = sleeper_in_call s run;
       no_bar_left = λ k t is calls.
           let place : IsPlaced (limits_in s.readers) t.view None = subst (λ o. IsPlaced (limits_in s.readers) t.view o) calls (run.each k t is) in
           place.1;

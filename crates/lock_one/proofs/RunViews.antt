@@ -10,23 +10,23 @@ use Rattle.lock_word.proofs.Rules.{changed_or_not}
 use Rattle.lock_word.proofs.Lists.{placed}
 use Rattle.lock_one.specs.declared.action.Action.{Action}
 use Rattle.lock_one.specs.declared.action.Action.TheVariants as action
-use Rattle.lock_one.specs.declared.call.Call.{Call}
+use Rattle.lock_one.specs.declared.call.WordCall.{WordCall}
 use Rattle.lock_one.specs.declared.stage.Stage.{Stage}
 use Rattle.lock_one.specs.declared.stage.Stage.TheVariants as stage
-use Rattle.lock_one.specs.declared.park.ParkLimits.{ParkLimits}
-use Rattle.lock_one.specs.declared.park.ParkView.{ParkView}
-use Rattle.lock_one.specs.declared.park.Park.{Park}
-use Rattle.lock_one.specs.declared.park.Park.TheVariants.{Awake, Asleep, Woken}
-use Rattle.lock_one.specs.declared.park.Debt.{Debt}
-use Rattle.lock_one.specs.declared.park.Debt.TheVariants as debt
-use Rattle.lock_one.specs.Rule.{is_asleep, is_woken, KeepsParking, with_park}
+use Rattle.lock_one.specs.declared.sleep_view.WordLimits.{WordLimits}
+use Rattle.lock_one.specs.declared.sleep_view.SleepView.{SleepView}
+use Rattle.lock_one.specs.declared.sleep_view.SleepState.{SleepState}
+use Rattle.lock_one.specs.declared.sleep_view.SleepState.TheVariants.{Awake, Asleep, Woken}
+use Rattle.lock_one.specs.declared.sleep_view.Debt.{Debt}
+use Rattle.lock_one.specs.declared.sleep_view.Debt.TheVariants as debt
+use Rattle.lock_one.specs.Rule.{is_asleep, is_woken, KeepsSleepers, with_sleep}
 use Rattle.lock_one.specs.Machine.{core_of, has_turn, has_sleepers, has_slept, is_due, class_of, is_brief, sleep_of}
 use Rattle.lock_one.specs.Steps.{ends, limits_of, hold_at, Acquires, AtRest, IsPause, IsWake, IsAt, Keeps}
-use Rattle.lock_one.specs.Runs.{Underway, Thread, LockInUse, views_of, limits_in, park_at, debt_at}
-use Rattle.lock_one.proofs.Parking.{each_step}
+use Rattle.lock_one.specs.Runs.{Underway, Thread, LockInUse, views_of, limits_in, sleep_at, debt_at}
+use Rattle.lock_one.proofs.EachStep.{each_step}
 
 -- a thread is where its call is, or at rest
-abbrev pub IsPlaced : ParkLimits → ParkView → Option Underway → Type 0
+abbrev pub IsPlaced : WordLimits → SleepView → Option Underway → Type 0
 IsPlaced limits v None = AtRest v × (v.held.announced ≡ false)
 IsPlaced limits v (Some u) =
     IsAt u.at.0.stage u.at.0 v u.at.1 × (v.held ≡ hold_at u.at.0.stage u.at.0 u.before) × (limits_of u.at.0 ≡ limits) × (ends u.at.1 ≡ false)
@@ -60,36 +60,36 @@ one_changed s word k t run keeps place =
 
 -- views
 
-pub same_view : (v : ParkView) (h : Hold) (p : Park) (d : Debt) → v.held ≡ h → v.park ≡ p → v.debt ≡ d → v ≡ record { held = h; park = p; debt = d }
+pub same_view : (v : SleepView) (h : Hold) (p : SleepState) (d : Debt) → v.held ≡ h → v.sleep ≡ p → v.debt ≡ d → v ≡ record { held = h; sleep = p; debt = d }
 same_view v h p d a b c =
-    ap (λ (x : Hold). let w : ParkView = record { held = x; park = v.park; debt = v.debt } in w) a
-    ∙ (ap (λ (x : Park). let w : ParkView = record { held = h; park = x; debt = v.debt } in w) b
-    ∙ ap (λ (x : Debt). let w : ParkView = record { held = h; park = p; debt = x } in w) c)
+    ap (λ (x : Hold). let w : SleepView = record { held = x; sleep = v.sleep; debt = v.debt } in w) a
+    ∙ (ap (λ (x : SleepState). let w : SleepView = record { held = h; sleep = x; debt = v.debt } in w) b
+    ∙ ap (λ (x : Debt). let w : SleepView = record { held = h; sleep = p; debt = x } in w) c)
 
 pub set_twice : {A : Type 0} (xs : List A) (k : ℕ) (y z : A) → slice_set (slice_set xs k y) k z ≡ slice_set xs k z
 set_twice [] k y z = refl
 set_twice (x ∷ xs) zero y z = refl
 set_twice (x ∷ xs) (suc k) y z = ap (λ ys. x ∷ ys) (set_twice xs k y z)
 
-pub asleep_for : (p : Park) → is_asleep p ≡ true → (x : ExWant) × (p ≡ Asleep x)
+pub asleep_for : (p : SleepState) → is_asleep p ≡ true → (x : ExWant) × (p ≡ Asleep x)
 asleep_for Awake h = absurd (false≢true h)
 asleep_for (Asleep x) h = (x, refl)
 asleep_for Woken h = absurd (false≢true h)
 
 -- a view may be lifted from awake to woken
-pub keeps_woken : (limits : ParkLimits) (word : ℕ) (views : List ParkView) (k : ℕ) (me you : ParkView) → IsLimit limits.readers
-    → slice_get views k ≡ Some me → Keeps limits word (slice_set views k you) → Keeps limits word (slice_set views k (with_park you Woken))
+pub keeps_woken : (limits : WordLimits) (word : ℕ) (views : List SleepView) (k : ℕ) (me you : SleepView) → IsLimit limits.readers
+    → slice_get views k ≡ Some me → Keeps limits word (slice_set views k you) → Keeps limits word (slice_set views k (with_sleep you Woken))
 keeps_woken limits word views k me you range at keeps =
     let step = (each_step limits (core_of word) (has_turn word) (has_sleepers word) (slice_set views k you) k you range keeps.kept (placed views k me you at)).wakes in
-    record { small = keeps.small; kept = subst (λ vs. KeepsParking limits (core_of word) (has_turn word) (has_sleepers word) vs) (set_twice views k you (with_park you Woken)) step }
+    record { small = keeps.small; kept = subst (λ vs. KeepsSleepers limits (core_of word) (has_turn word) (has_sleepers word) vs) (set_twice views k you (with_sleep you Woken)) step }
 
 -- the party after a step: that of the law, or that one woken
-pub record Settled (you w : ParkView) (stage_ : Stage) (call : Call) (a : Action) : Type 0 where
-  pub either : (w ≡ you) ⊎ (w ≡ with_park you Woken)
+pub record Settled (you w : SleepView) (stage_ : Stage) (call : WordCall) (a : Action) : Type 0 where
+  pub either : (w ≡ you) ⊎ (w ≡ with_sleep you Woken)
   pub at : IsAt stage_ call w a
 
-as_woken : (wish : ExWant) (an turned slept bl due : Bool) (v : ParkView) (p : Park) → Acquires wish an turned slept bl due v → (IsTrue (is_woken p) → slept ≡ true)
-    → Acquires wish an turned slept bl due (with_park v p)
+as_woken : (wish : ExWant) (an turned slept bl due : Bool) (v : SleepView) (p : SleepState) → Acquires wish an turned slept bl due v → (IsTrue (is_woken p) → slept ≡ true)
+    → Acquires wish an turned slept bl due (with_sleep v p)
 as_woken wish an turned slept bl due v p acq woken =
     record {
       awaited = acq.awaited;
@@ -113,41 +113,41 @@ waits_at stage.Withdraw = true
 waits_at stage.Leave = true
 waits_at other = false
 
--- what a party that waits at a stage may be instead: with another park
-other_park : (st : Stage) (call : Call) (v : ParkView) (p : Park) (a : Action) → IsAt st call v a → waits_at st ≡ true → is_asleep p ≡ false
-    → (IsTrue (is_woken p) → has_slept call ≡ true) → IsAt st call (with_park v p) a
-other_park stage.Look call v p a is w awake woken = ((as_woken call.want call.announced call.turned (has_slept call) call.blocks (is_due call) v p is.0.0 woken, awake), is.1)
-other_park stage.Try call v p a is w awake woken = ((as_woken call.want call.announced call.turned (has_slept call) call.blocks (is_due call) v p is.0.0 woken, awake), is.1, is.2)
-other_park stage.Pause call v p a is w awake woken = ((as_woken call.want call.announced call.turned (has_slept call) call.blocks (is_due call) v p is.0.0 woken, awake), is.1)
-other_park stage.Mark call v p a is w awake woken = ((as_woken call.want call.announced call.turned (has_slept call) call.blocks (is_due call) v p is.0.0 woken, awake), is.1, is.2, is.3, is.4)
-other_park stage.Sleep call v p a is w awake woken = absurd (false≢true w)
-other_park stage.Withdraw call v p a is w awake woken = ((as_woken call.want call.announced call.turned (has_slept call) call.blocks (is_due call) v p is.0.0 woken, awake), is.1, is.2, is.3, is.4)
-other_park stage.Leave call v p a is w awake woken = ((as_woken call.want call.announced call.turned (has_slept call) call.blocks (is_due call) v p is.0.0 woken, awake), is.1, is.2, is.3, is.4, is.5)
-other_park stage.Release call v p a is w awake woken = absurd (false≢true w)
-other_park stage.LookToRemove call v p a is w awake woken = absurd (false≢true w)
-other_park stage.Subtract call v p a is w awake woken = absurd (false≢true w)
-other_park stage.Wake call v p a is w awake woken = absurd (false≢true w)
-other_park stage.WakeRefused call v p a is w awake woken = absurd (false≢true w)
-other_park stage.WakeAcquired call v p a is w awake woken = absurd (false≢true w)
-other_park stage.Acquired call v p a is w awake woken = absurd (false≢true w)
-other_park stage.Refused call v p a is w awake woken = absurd (false≢true w)
-other_park stage.Ended call v p a is w awake woken = absurd (false≢true w)
+-- what a party that waits at a stage may be instead: one with another sleep
+other_sleep : (st : Stage) (call : WordCall) (v : SleepView) (p : SleepState) (a : Action) → IsAt st call v a → waits_at st ≡ true → is_asleep p ≡ false
+    → (IsTrue (is_woken p) → has_slept call ≡ true) → IsAt st call (with_sleep v p) a
+other_sleep stage.Look call v p a is w awake woken = ((as_woken call.want call.announced call.turned (has_slept call) call.blocks (is_due call) v p is.0.0 woken, awake), is.1)
+other_sleep stage.Try call v p a is w awake woken = ((as_woken call.want call.announced call.turned (has_slept call) call.blocks (is_due call) v p is.0.0 woken, awake), is.1, is.2)
+other_sleep stage.Pause call v p a is w awake woken = ((as_woken call.want call.announced call.turned (has_slept call) call.blocks (is_due call) v p is.0.0 woken, awake), is.1)
+other_sleep stage.Mark call v p a is w awake woken = ((as_woken call.want call.announced call.turned (has_slept call) call.blocks (is_due call) v p is.0.0 woken, awake), is.1, is.2, is.3, is.4)
+other_sleep stage.Sleep call v p a is w awake woken = absurd (false≢true w)
+other_sleep stage.Withdraw call v p a is w awake woken = ((as_woken call.want call.announced call.turned (has_slept call) call.blocks (is_due call) v p is.0.0 woken, awake), is.1, is.2, is.3, is.4)
+other_sleep stage.Leave call v p a is w awake woken = ((as_woken call.want call.announced call.turned (has_slept call) call.blocks (is_due call) v p is.0.0 woken, awake), is.1, is.2, is.3, is.4, is.5)
+other_sleep stage.Release call v p a is w awake woken = absurd (false≢true w)
+other_sleep stage.LookToRemove call v p a is w awake woken = absurd (false≢true w)
+other_sleep stage.Subtract call v p a is w awake woken = absurd (false≢true w)
+other_sleep stage.Wake call v p a is w awake woken = absurd (false≢true w)
+other_sleep stage.WakeRefused call v p a is w awake woken = absurd (false≢true w)
+other_sleep stage.WakeAcquired call v p a is w awake woken = absurd (false≢true w)
+other_sleep stage.Acquired call v p a is w awake woken = absurd (false≢true w)
+other_sleep stage.Refused call v p a is w awake woken = absurd (false≢true w)
+other_sleep stage.Ended call v p a is w awake woken = absurd (false≢true w)
 
-sleeping_park : (call : Call) (v : ParkView) (p : Park) (a : Action) → IsAt stage.Sleep call v a → (IsTrue (is_asleep p) → p ≡ Asleep call.want)
-    → IsAt stage.Sleep call (with_park v p) a
-sleeping_park call v p a is own =
+sleeping_other : (call : WordCall) (v : SleepView) (p : SleepState) (a : Action) → IsAt stage.Sleep call v a → (IsTrue (is_asleep p) → p ≡ Asleep call.want)
+    → IsAt stage.Sleep call (with_sleep v p) a
+sleeping_other call v p a is own =
     (as_woken call.want call.announced call.turned true call.blocks (is_due call) v p is.0 (λ w. refl), is.1, is.2, is.3, own, is.5, is.6, is.7)
 
 -- a sleep owes nothing, and is no end
-pub quiet_sleep : (call : Call) → (debt_at (sleep_of call) ≡ debt.Nothing) × (ends (sleep_of call) ≡ false)
+pub quiet_sleep : (call : WordCall) → (debt_at (sleep_of call) ≡ debt.Nothing) × (ends (sleep_of call) ≡ false)
 quiet_sleep call = by (nat_lt call.readers (2 ^ 27))
   where
-    by : (b : Bool) → (debt_at (if b then action.Park call.loaded (class_of call.announced call.want) (is_brief call) else action.Yield) ≡ debt.Nothing)
-        × (ends (if b then action.Park call.loaded (class_of call.announced call.want) (is_brief call) else action.Yield) ≡ false)
+    by : (b : Bool) → (debt_at (if b then action.Sleep call.loaded (class_of call.announced call.want) (is_brief call) else action.Yield) ≡ debt.Nothing)
+        × (ends (if b then action.Sleep call.loaded (class_of call.announced call.want) (is_brief call) else action.Yield) ≡ false)
     by true = (refl, refl)
     by false = (refl, refl)
 
-pub owes_at : (st : Stage) (call : Call) (v : ParkView) (a : Action) → IsAt st call v a → v.debt ≡ debt_at a
+pub owes_at : (st : Stage) (call : WordCall) (v : SleepView) (a : Action) → IsAt st call v a → v.debt ≡ debt_at a
 owes_at stage.Look call v a is = is.0.0.owes_none ∙ sym (ap debt_at is.1)
 owes_at stage.Try call v a is = is.0.0.owes_none ∙ sym (ap debt_at is.2)
 owes_at stage.Pause call v a is = is.0.0.owes_none ∙ by a is.1
@@ -155,7 +155,7 @@ owes_at stage.Pause call v a is = is.0.0.owes_none ∙ by a is.1
     by : (a : Action) → IsPause a → debt.Nothing ≡ debt_at a
     by action.Load h = absurd h
     by (action.Exchange x y) h = absurd h
-    by (action.Park n c b) h = absurd h
+    by (action.Sleep n c b) h = absurd h
     by (action.Subtract d) h = absurd h
     by action.WakeOne h = absurd h
     by action.WakeAll h = absurd h
@@ -186,47 +186,47 @@ owes_at stage.Refused call v a is = is.0.1 ∙ sym (ap debt_at is.1)
 owes_at stage.Ended call v a is = is.0.1 ∙ sym (ap debt_at is.1)
 
 -- the view of the run is that of the law, or that one woken
-pub settled : (st : Stage) (call : Call) (you : ParkView) (a : Action) (park : Park) (h : Hold) → IsAt st call you a → you.held ≡ h
-    → (you.park ≡ park) ⊎ (you.park ≡ Awake) → is_asleep park ≡ false → (IsTrue (is_woken park) → has_slept call ≡ true)
-    → Settled you record { held = h; park = park_at st park; debt = debt_at a } st call a
-settled st call you a park h is held parked awake woken = by st is
+pub settled : (st : Stage) (call : WordCall) (you : SleepView) (a : Action) (state : SleepState) (h : Hold) → IsAt st call you a → you.held ≡ h
+    → (you.sleep ≡ state) ⊎ (you.sleep ≡ Awake) → is_asleep state ≡ false → (IsTrue (is_woken state) → has_slept call ≡ true)
+    → Settled you record { held = h; sleep = sleep_at st state; debt = debt_at a } st call a
+settled st call you a state h is held same_or_awake awake woken = by st is
   where
     owed : (st : Stage) → IsAt st call you a → you.debt ≡ debt_at a
     owed st is = owes_at st call you a is
 
-    done : (st : Stage) (is : IsAt st call you a) → you.park ≡ park_at st park → Settled you record { held = h; park = park_at st park; debt = debt_at a } st call a
+    done : (st : Stage) (is : IsAt st call you a) → you.sleep ≡ sleep_at st state → Settled you record { held = h; sleep = sleep_at st state; debt = debt_at a } st call a
     done st is p =
-        let e = same_view you h (park_at st park) (debt_at a) held p (owed st is) in
-        record { either = inl (sym e); at = subst (λ (v : ParkView). IsAt st call v a) e is }
+        let e = same_view you h (sleep_at st state) (debt_at a) held p (owed st is) in
+        record { either = inl (sym e); at = subst (λ (v : SleepView). IsAt st call v a) e is }
 
-    as_park : (st : Stage) (is : IsAt st call you a) → IsAt st call (with_park you park) a
-        → Settled you record { held = h; park = park; debt = debt_at a } st call a
-    as_park st is at =
-        let e = same_view (with_park you park) h park (debt_at a) held refl (owed st is) in
+    as_state : (st : Stage) (is : IsAt st call you a) → IsAt st call (with_sleep you state) a
+        → Settled you record { held = h; sleep = state; debt = debt_at a } st call a
+    as_state st is at =
+        let e = same_view (with_sleep you state) h state (debt_at a) held refl (owed st is) in
         record {
           either =
-              elim parked [
-                | inl p ↦ inl (sym (same_view you h park (debt_at a) held p (owed st is)))
-                | inr awake_you ↦ lifted park awake e awake_you
+              elim same_or_awake [
+                | inl p ↦ inl (sym (same_view you h state (debt_at a) held p (owed st is)))
+                | inr awake_you ↦ lifted state awake e awake_you
               ];
-          at = subst (λ (v : ParkView). IsAt st call v a) e at;
+          at = subst (λ (v : SleepView). IsAt st call v a) e at;
         }
       where
-        lifted : (p : Park) → is_asleep p ≡ false → with_park you p ≡ record { held = h; park = p; debt = debt_at a } → you.park ≡ Awake
-            → (record { held = h; park = p; debt = debt_at a } ≡ you) ⊎ (record { held = h; park = p; debt = debt_at a } ≡ with_park you Woken)
+        lifted : (p : SleepState) → is_asleep p ≡ false → with_sleep you p ≡ record { held = h; sleep = p; debt = debt_at a } → you.sleep ≡ Awake
+            → (record { held = h; sleep = p; debt = debt_at a } ≡ you) ⊎ (record { held = h; sleep = p; debt = debt_at a } ≡ with_sleep you Woken)
         lifted Awake aw e y = inl (sym (same_view you h Awake (debt_at a) held y (owed st is)))
         lifted (Asleep x) aw e y = absurd (true≢false aw)
         lifted Woken aw e y = inr (sym e)
 
-    waiting : (st : Stage) (is : IsAt st call you a) → waits_at st ≡ true → Settled you record { held = h; park = park; debt = debt_at a } st call a
-    waiting st is w = as_park st is (other_park st call you park a is w awake woken)
+    waiting : (st : Stage) (is : IsAt st call you a) → waits_at st ≡ true → Settled you record { held = h; sleep = state; debt = debt_at a } st call a
+    waiting st is w = as_state st is (other_sleep st call you state a is w awake woken)
 
-    by : (st : Stage) → IsAt st call you a → Settled you record { held = h; park = park_at st park; debt = debt_at a } st call a
+    by : (st : Stage) → IsAt st call you a → Settled you record { held = h; sleep = sleep_at st state; debt = debt_at a } st call a
     by stage.Look is = waiting stage.Look is refl
     by stage.Try is = waiting stage.Try is refl
     by stage.Pause is = waiting stage.Pause is refl
     by stage.Mark is = waiting stage.Mark is refl
-    by stage.Sleep is = as_park stage.Sleep is (sleeping_park call you park a is (λ asleep. absurd (true≢false (sym asleep ∙ awake))))
+    by stage.Sleep is = as_state stage.Sleep is (sleeping_other call you state a is (λ asleep. absurd (true≢false (sym asleep ∙ awake))))
     by stage.Withdraw is = waiting stage.Withdraw is refl
     by stage.Leave is = waiting stage.Leave is refl
     by stage.Release is = done stage.Release is is.1.0

@@ -14,27 +14,27 @@ use Rattle.lock_word.proofs.Lists.{in_longer}
 use Rattle.lock_one.specs.declared.action.Action.TheVariants as action
 use Rattle.lock_one.specs.declared.stage.Stage.{Stage}
 use Rattle.lock_one.specs.declared.stage.Stage.TheVariants as stage
-use Rattle.lock_one.specs.declared.park.ParkLimits.{ParkLimits}
-use Rattle.lock_one.specs.declared.park.ParkView.{ParkView}
-use Rattle.lock_one.specs.declared.park.Park.TheVariants.{Asleep}
+use Rattle.lock_one.specs.declared.sleep_view.WordLimits.{WordLimits}
+use Rattle.lock_one.specs.declared.sleep_view.SleepView.{SleepView}
+use Rattle.lock_one.specs.declared.sleep_view.SleepState.TheVariants.{Asleep}
 use Rattle.lock_one.specs.declared.action.Sleeper.{Sleeper}
-use Rattle.lock_one.specs.Rule.{holds_of, is_asleep, KeepsParking, new_party}
+use Rattle.lock_one.specs.Rule.{holds_of, is_asleep, KeepsSleepers, new_party}
 use Rattle.lock_one.specs.Machine.{core_of, has_turn, has_sleepers, class_of, is_brief, is_due}
 use Rattle.lock_one.specs.Steps.{ends, hold_at, IsAt, is_step, Keeps}
-use Rattle.lock_one.specs.Runs.{Underway, Thread, LockInUse, views_of, limits_in, new_thread, new_lock, Act, join, acquires, releases, steps, steps_by, step_at, step_in, step_by, after_act, after_acts, IsInPark}
-use Rattle.lock_one.proofs.Parking.{parties_of, rule_of, holds_of_parties, sums_of, starts}
+use Rattle.lock_one.specs.Runs.{Underway, Thread, LockInUse, views_of, limits_in, new_thread, new_lock, Act, join, acquires, releases, steps, steps_by, step_at, step_in, step_by, after_act, after_acts, SleepsInCall}
+use Rattle.lock_one.proofs.EachStep.{parties_of, rule_of, holds_of_parties, sums_of, starts}
 use Rattle.lock_one.proofs.RunViews.{IsPlaced, RunKept}
-use Rattle.lock_one.proofs.RunActs.{bare_after, acquire_kept, release_kept, step_kept, awake_at, park_kept}
+use Rattle.lock_one.proofs.RunActs.{bare_after, acquire_kept, release_kept, step_kept, awake_at, sleep_kept}
 use Rattle.lock_one.proofs.RunWakes.{wake_kept, refused_kept, acquired_kept}
 
 -- a thread that joins
 
-pub joined : (limits : ParkLimits) (core : ℕ) (t s : Bool) (views : List ParkView) → KeepsParking limits core t s views
-    → KeepsParking limits core t s (views ++ new_party ∷ [])
+pub joined : (limits : WordLimits) (core : ℕ) (t s : Bool) (views : List SleepView) → KeepsSleepers limits core t s views
+    → KeepsSleepers limits core t s (views ++ new_party ∷ [])
 joined limits core t s views kept =
     let longer : holds (parties_of views ++ idle ∷ []) ≡ holds_of (views ++ new_party ∷ [])
     = map-append (λ (q : WorldParty). q.held) (parties_of views) (idle ∷ [])
-    ∙ (ap (λ hs. hs ++ no_hold ∷ []) (holds_of_parties views) ∙ sym (map-append (λ (v : ParkView). v.held) views (new_party ∷ []))) in
+    ∙ (ap (λ hs. hs ++ no_hold ∷ []) (holds_of_parties views) ∙ sym (map-append (λ (v : SleepView). v.held) views (new_party ∷ []))) in
     let total = sums_of limits.readers core (parties_of views ++ idle ∷ []) (views ++ new_party ∷ []) longer
     (keeps_newcomer limits.readers core (parties_of views) (rule_of limits.readers core views kept.coded kept.legal)) in
     record {
@@ -63,8 +63,8 @@ joined limits core t s views kept =
           ];
     }
   where
-    awake : (v : ParkView) (want : ExWant) → v ≡ new_party → v.park ≡ Asleep want → ⊥
-    awake v want new asleep = let park = ap (λ (w : ParkView). w.park) new in cc
+    awake : (v : SleepView) (want : ExWant) → v ≡ new_party → v.sleep ≡ Asleep want → ⊥
+    awake v want new asleep = let state = ap (λ (w : SleepView). w.sleep) new in cc
 
 joins : (s : LockInUse) → RunKept s → RunKept (after_act s join)
 joins s run =
@@ -98,7 +98,7 @@ stepped s k given j t at run = in_call t.underway refl (run.each k t at)
     at_stage stage.Try u e calls place is held = makes_step u calls place (ap is_step e)
     at_stage stage.Pause u e calls place is held = makes_step u calls place (ap is_step e)
     at_stage stage.Mark u e calls place is held = makes_step u calls place (ap is_step e)
-    at_stage stage.Sleep u e calls place is held = park_kept s k given t u at is held place.2 place.4 e calls run
+    at_stage stage.Sleep u e calls place is held = sleep_kept s k given t u at is held place.2 place.4 e calls run
     at_stage stage.Withdraw u e calls place is held = makes_step u calls place (ap is_step e)
     at_stage stage.Leave u e calls place is held = makes_step u calls place (ap is_step e)
     at_stage stage.Release u e calls place is held = makes_step u calls place (ap is_step e)
@@ -141,16 +141,16 @@ new_kept readers range =
           ];
     }
 
-parked_as : (few : Bool) (n m : ℕ) (p q : Sleeper) (b c : Bool) → action.Park n p b ≡ (if few then action.Park m q c else action.Yield) → (n ≡ m) × (p ≡ q) × (b ≡ c)
-parked_as true n m p q b c e = (cc, cc, cc)
-parked_as false n m p q b c e = cc
+same_sleep : (few : Bool) (n m : ℕ) (p q : Sleeper) (b c : Bool) → action.Sleep n p b ≡ (if few then action.Sleep m q c else action.Yield) → (n ≡ m) × (p ≡ q) × (b ≡ c)
+same_sleep true n m p q b c e = (cc, cc, cc)
+same_sleep false n m p q b c e = cc
 
--- each sleeper is in its park
-in_park : (limits : ParkLimits) (t : Thread) → IsPlaced limits t.view t.underway → is_asleep t.view.park ≡ true → IsInPark t
-in_park limits t place asleep = in_call t.underway refl place
+-- each sleeper is in a call, at its sleep
+sleeps_in_call : (limits : WordLimits) (t : Thread) → IsPlaced limits t.view t.underway → is_asleep t.view.sleep ≡ true → SleepsInCall t
+sleeps_in_call limits t place asleep = in_call t.underway refl place
   where
     at_stage : (st : Stage) (u : Underway) → t.view.held ≡ hold_at u.at.0.stage u.at.0 u.before → u.at.0.stage ≡ st → t.underway ≡ Some u
-        → IsAt st u.at.0 t.view u.at.1 → IsInPark t
+        → IsAt st u.at.0 t.view u.at.1 → SleepsInCall t
     at_stage stage.Look u held e calls is = absurd (true≢false (sym asleep ∙ is.0.1))
     at_stage stage.Try u held e calls is = absurd (true≢false (sym asleep ∙ is.0.1))
     at_stage stage.Pause u held e calls is = absurd (true≢false (sym asleep ∙ is.0.1))
@@ -161,8 +161,8 @@ in_park limits t place asleep = in_call t.underway refl place
       sleeps = e;
       wants = is.4 asleep;
       marked = is.3;
-      parks = λ number class brief asks.
-          let same = parked_as (nat_lt u.at.0.readers (2 ^ 27)) number u.at.0.loaded class (class_of u.at.0.announced u.at.0.want) brief (is_brief u.at.0) (sym asks ∙ is.5) in
+      sleeps_on = λ number class brief asks.
+          let same = same_sleep (nat_lt u.at.0.readers (2 ^ 27)) number u.at.0.loaded class (class_of u.at.0.announced u.at.0.want) brief (is_brief u.at.0) (sym asks ∙ is.5) in
           (same.0, same.1 ∙ ap (λ a. class_of a u.at.0.want) is.0.bar, same.2);
       barred = is.6;
       turned = is.7;
@@ -179,12 +179,12 @@ in_park limits t place asleep = in_call t.underway refl place
     at_stage stage.Refused u held e calls is = absurd (true≢false (sym asleep ∙ ap is_asleep is.0.0))
     at_stage stage.Ended u held e calls is = absurd (true≢false (sym asleep ∙ ap is_asleep is.0.0))
 
-    in_call : (o : Option Underway) → t.underway ≡ o → IsPlaced limits t.view o → IsInPark t
+    in_call : (o : Option Underway) → t.underway ≡ o → IsPlaced limits t.view o → SleepsInCall t
     in_call None e place = absurd (true≢false (sym asleep ∙ ap is_asleep place.0.0))
     in_call (Some u) e place = at_stage u.at.0.stage u place.1 refl e place.0
 
 -- a call that has set the bar was due to
-due_at : (st : Stage) (u : Underway) (v : ParkView) → IsAt st u.at.0 v u.at.1 → v.held ≡ hold_at st u.at.0 u.before → u.before.announced ≡ false
+due_at : (st : Stage) (u : Underway) (v : SleepView) → IsAt st u.at.0 v u.at.1 → v.held ≡ hold_at st u.at.0 u.before → u.before.announced ≡ false
     → v.held.announced ≡ true → is_due u.at.0 ≡ true
 due_at st u v is held clean own = due_in st is (ap (λ (h : Hold). h.announced) (sym held) ∙ own)
   where
@@ -206,9 +206,9 @@ due_at st u v is held clean own = due_in st is (ap (λ (h : Hold). h.announced) 
     due_in stage.Refused is bar = absurd (false≢true bar)
     due_in stage.Ended is bar = absurd (false≢true (sym (bare_after u.before clean u.at.0.down) ∙ bar))
 
--- each sleeper is in its park, and a call with a bar was due
-pub sleeper_in_park : (s : LockInUse) → RunKept s → (k : ℕ) (t : Thread) → slice_get s.threads k ≡ Some t → is_asleep t.view.park ≡ true → IsInPark t
-sleeper_in_park s run k t is asleep = in_park (limits_in s.readers) t (run.each k t is) asleep
+-- each sleeper is in a call, at its sleep, and a call with a bar was due
+pub sleeper_in_call : (s : LockInUse) → RunKept s → (k : ℕ) (t : Thread) → slice_get s.threads k ≡ Some t → is_asleep t.view.sleep ≡ true → SleepsInCall t
+sleeper_in_call s run k t is asleep = sleeps_in_call (limits_in s.readers) t (run.each k t is) asleep
 
 pub barred_was_due : (s : LockInUse) → RunKept s → (k : ℕ) (t : Thread) (u : Underway) → slice_get s.threads k ≡ Some t → t.underway ≡ Some u
     → t.view.held.announced ≡ true → is_due u.at.0 ≡ true

@@ -8,22 +8,22 @@ use Rattle.lock_word.specs.Word.{word_admits}
 use Rattle.lock_word.proofs.Lists.{placed, other_stays}
 use Rattle.lock_one.specs.declared.action.Action.{Action}
 use Rattle.lock_one.specs.declared.action.Action.TheVariants as action
-use Rattle.lock_one.specs.declared.call.Call.{Call}
+use Rattle.lock_one.specs.declared.call.WordCall.{WordCall}
 use Rattle.lock_one.specs.declared.stage.Stage.TheVariants as stage
-use Rattle.lock_one.specs.declared.park.ParkLimits.{ParkLimits}
-use Rattle.lock_one.specs.declared.park.ParkView.{ParkView}
-use Rattle.lock_one.specs.declared.park.Park.{Park}
-use Rattle.lock_one.specs.declared.park.Park.TheVariants.{Awake, Asleep, Woken}
-use Rattle.lock_one.specs.declared.park.Debt.{Debt}
-use Rattle.lock_one.specs.declared.park.Debt.TheVariants as debt
-use Rattle.lock_one.specs.Rule.{passes_turn, is_woken, is_asleep, is_next, is_in_turn, has_duty, reaches, admits_to, IsRefused, KeepsParking, with_park, with_debt, wake_park_of, wake_all, wake_of, wake_next, wake_turn}
+use Rattle.lock_one.specs.declared.sleep_view.WordLimits.{WordLimits}
+use Rattle.lock_one.specs.declared.sleep_view.SleepView.{SleepView}
+use Rattle.lock_one.specs.declared.sleep_view.SleepState.{SleepState}
+use Rattle.lock_one.specs.declared.sleep_view.SleepState.TheVariants.{Awake, Asleep, Woken}
+use Rattle.lock_one.specs.declared.sleep_view.Debt.{Debt}
+use Rattle.lock_one.specs.declared.sleep_view.Debt.TheVariants as debt
+use Rattle.lock_one.specs.Rule.{passes_turn, is_woken, is_asleep, is_next, is_in_turn, has_duty, reaches, admits_to, IsRefused, KeepsSleepers, with_sleep, with_debt, woken_of, wake_all, wake_of, wake_next, wake_turn}
 use Rattle.lock_one.specs.Machine.{core_of, has_turn, has_sleepers, wakes_one, is_due, is_brief, one_more_sleep, sleeps_after, next_at}
 use Rattle.lock_one.specs.Steps.{limits_of, Acquires, Acquiring, IsWake, IsAt, Keeps}
 use Rattle.lock_one.proofs.Kept.{EachStepKeeps, SleepsKeepTheRule}
-use Rattle.lock_one.proofs.Parking.{each_step, duty_serves, held_refuses, mutex_refuses, others_admit}
+use Rattle.lock_one.proofs.EachStep.{each_step, duty_serves, held_refuses, mutex_refuses, others_admit}
 use Rattle.lock_one.proofs.Words.{refused_is_taken, refused_is_held, refusal_of}
 
-refused_to : (call : Call) (core : ℕ) (v : ParkView) → call.announced ≡ v.held.announced → word_admits call.announced call.readers core call.want ≡ false
+refused_to : (call : WordCall) (core : ℕ) (v : SleepView) → call.announced ≡ v.held.announced → word_admits call.announced call.readers core call.want ≡ false
     → (IsTrue (wakes_one call) → core ≢ 0) → (call.announced ≡ true → core % 2 ^ 34 ≢ 0) → admits_to (limits_of call) core v call.want ≡ false
 refused_to call core v bar refuses taken held = by (wakes_one call) refl
   where
@@ -45,7 +45,7 @@ slept_more n = ap not (false_from_ne_true (one_more_sleep n == 0) (λ e. by (nat
     by false high e = true≢false (sym (lt-ltb n 4 (omega arith)) ∙ high)
 
 -- of a sleep with any answer
-slept_after : (found : ℕ) (call : Call) → not (sleeps_after found call == 0) ≡ true
+slept_after : (found : ℕ) (call : WordCall) → not (sleeps_after found call == 0) ≡ true
 slept_after found call = by ((found == 2) && is_brief call)
   where
     by : (b : Bool) → not ((if b then 4 else one_more_sleep call.sleeps) == 0) ≡ true
@@ -56,16 +56,16 @@ due_more : (one : Bool) (n : ℕ) → (not one || (n == 4)) ≡ true → (not on
 due_more false n due = refl
 due_more true n due = let is : n ≡ 4 = eqb-true n 4 due in subst (λ m. (one_more_sleep m == 4) ≡ true) (sym is) refl
 
-due_after : (found : ℕ) (call : Call) → is_due call ≡ true → (not (wakes_one call) || (sleeps_after found call == 4)) ≡ true
+due_after : (found : ℕ) (call : WordCall) → is_due call ≡ true → (not (wakes_one call) || (sleeps_after found call == 4)) ≡ true
 due_after found call due = by ((found == 2) && is_brief call)
   where
     by : (b : Bool) → (not (wakes_one call) || ((if b then 4 else one_more_sleep call.sleeps) == 4)) ≡ true
     by true = or_right (not (wakes_one call)) true refl
     by false = due_more (wakes_one call) call.sleeps due
 
-pub after_sleep : (call : Call) (answer : ℕ) (v : ParkView) (park : Park) → Acquires call.want call.announced call.turned true call.blocks (is_due call) v
-    → call.blocks ≡ true → Acquiring (next_at stage.Sleep answer call).0 (with_park v park)
-after_sleep call answer v park acq blocks =
+pub after_sleep : (call : WordCall) (answer : ℕ) (v : SleepView) (state : SleepState) → Acquires call.want call.announced call.turned true call.blocks (is_due call) v
+    → call.blocks ≡ true → Acquiring (next_at stage.Sleep answer call).0 (with_sleep v state)
+after_sleep call answer v state acq blocks =
     record {
       awaited = acq.awaited;
       has = acq.has;
@@ -109,28 +109,28 @@ owes_one debt.All h = cc
 owes_one debt.Next h = cc
 owes_one debt.Turn h = cc
 
-all_awake : (park : Park) → park ≡ Awake → (wake_all_park : Park) → wake_all_park ≡ park → wake_all_park ≡ Awake
-all_awake park e w same = same ∙ e
+all_awake : (state : SleepState) → state ≡ Awake → (after : SleepState) → after ≡ state → after ≡ Awake
+all_awake state e w same = same ∙ e
 
-module _ (word : ℕ) (views : List ParkView) (k : ℕ) (me : ParkView) (call : Call) (range : IsLimit call.readers)
+module _ (word : ℕ) (views : List SleepView) (k : ℕ) (me : SleepView) (call : WordCall) (range : IsLimit call.readers)
     (keeps : Keeps (limits_of call) word views) (at : slice_get views k ≡ Some me) where
   step : EachStepKeeps (limits_of call) (core_of word) (has_turn word) (has_sleepers word) views k me
   step = each_step (limits_of call) (core_of word) (has_turn word) (has_sleepers word) views k me range keeps.kept at
 
-  as_kept : (later : List ParkView) → KeepsParking (limits_of call) (core_of word) (has_turn word) (has_sleepers word) later → Keeps (limits_of call) word later
+  as_kept : (later : List SleepView) → KeepsSleepers (limits_of call) (core_of word) (has_turn word) (has_sleepers word) later → Keeps (limits_of call) word later
   as_kept later kept = record { small = keeps.small; kept = kept }
 
-  idle : me.park ≡ Awake → has_duty (limits_of call) me ≡ false
-  idle awake = by (wakes_one call) me.park awake
+  idle : me.sleep ≡ Awake → has_duty (limits_of call) me ≡ false
+  idle awake = by (wakes_one call) me.sleep awake
     where
-      by : (b : Bool) (park : Park) → park ≡ Awake → (b && is_woken park) ≡ false
-      by true park e = ap is_woken e
-      by false park e = refl
+      by : (b : Bool) (state : SleepState) → state ≡ Awake → (b && is_woken state) ≡ false
+      by true state e = ap is_woken e
+      by false state e = refl
 
-falls_asleep : (views : List ParkView) (k : ℕ) (me : ParkView) (call : Call) (a : Action)
+falls_asleep : (views : List SleepView) (k : ℕ) (me : SleepView) (call : WordCall) (a : Action)
     → IsLimit call.readers → Keeps (limits_of call) call.loaded views → slice_get views k ≡ Some me → IsAt stage.Sleep call me a
-    → Keeps (limits_of call) call.loaded (slice_set views k (with_park me (Asleep call.want)))
-    × IsAt stage.Sleep call (with_park me (Asleep call.want)) a
+    → Keeps (limits_of call) call.loaded (slice_set views k (with_sleep me (Asleep call.want)))
+    × IsAt stage.Sleep call (with_sleep me (Asleep call.want)) a
 falls_asleep views k me call a range keeps at is =
     let acq = is.0 in
     let core = core_of call.loaded in
@@ -144,7 +144,7 @@ falls_asleep views k me call a range keeps at is =
       | inl core_does ↦ bare core_does
       | inr turn ↦ inr (turn.0, subst (λ a. passes_turn a call.want ≡ false) acq.bar turn.1)
     ] in (
-      as_kept call.loaded views k me call range keeps at (slice_set views k (with_park me (Asleep call.want)))
+      as_kept call.loaded views k me call range keeps at (slice_set views k (with_sleep me (Asleep call.want)))
           ((step call.loaded views k me call range keeps at).sleeps call.want (acq.awaited, acq.has) acq.owes_none is.3 refuses),
       (
         record {
@@ -168,27 +168,27 @@ falls_asleep views k me call a range keeps at is =
       ),
     )
 
-sleep_ends : (word : ℕ) (views : List ParkView) (k : ℕ) (me : ParkView) (call : Call) (a : Action) (answer : ℕ)
+sleep_ends : (word : ℕ) (views : List SleepView) (k : ℕ) (me : SleepView) (call : WordCall) (a : Action) (answer : ℕ)
     → IsLimit call.readers → Keeps (limits_of call) word views → slice_get views k ≡ Some me → IsAt stage.Sleep call me a
-    → Keeps (limits_of call) word (slice_set views k (with_park me Woken))
-    × IsAt stage.Look (next_at stage.Sleep answer call).0 (with_park me Woken) (next_at stage.Sleep answer call).1
+    → Keeps (limits_of call) word (slice_set views k (with_sleep me Woken))
+    × IsAt stage.Look (next_at stage.Sleep answer call).0 (with_sleep me Woken) (next_at stage.Sleep answer call).1
 sleep_ends word views k me call a answer range keeps at is = (
-  as_kept word views k me call range keeps at (slice_set views k (with_park me Woken)) (step word views k me call range keeps at).wakes,
+  as_kept word views k me call range keeps at (slice_set views k (with_sleep me Woken)) (step word views k me call range keeps at).wakes,
   ((after_sleep call answer me Woken is.0 is.2, refl), refl),
 )
 
-wake_all_awake : (v : ParkView) → v.park ≡ Awake → (wake_all v).park ≡ Awake
-wake_all_awake v e = by v.park e
+wake_all_awake : (v : SleepView) → v.sleep ≡ Awake → (wake_all v).sleep ≡ Awake
+wake_all_awake v e = by v.sleep e
   where
-    by : (park : Park) → park ≡ Awake → (wake_all (with_park v park)).park ≡ Awake
+    by : (state : SleepState) → state ≡ Awake → (wake_all (with_sleep v state)).sleep ≡ Awake
     by Awake e = refl
     by (Asleep w) e = cc
     by Woken e = cc
 
-wake_of_awake : (test : ParkView → ExWant → Bool) (v : ParkView) → v.park ≡ Awake → (wake_of test v).park ≡ Awake
-wake_of_awake test v e = by v.park e
+wake_of_awake : (test : SleepView → ExWant → Bool) (v : SleepView) → v.sleep ≡ Awake → (wake_of test v).sleep ≡ Awake
+wake_of_awake test v e = by v.sleep e
   where
-    by : (park : Park) → park ≡ Awake → wake_park_of test v park ≡ Awake
+    by : (state : SleepState) → state ≡ Awake → woken_of test v state ≡ Awake
     by Awake e = refl
     by (Asleep w) e = cc
     by Woken e = cc
@@ -230,14 +230,14 @@ sleeps_keep_the_rule =
           let other : j ≢ k = λ e.
           let found : slice_get views k ≡ Some w = subst (λ n. slice_get views n ≡ Some w) e at_j in
           let same : w ≡ me = same_Some w me (sym found ∙ at) in
-          let park : Asleep wish ≡ Awake = sym asleep ∙ (ap (λ (v : ParkView). v.park) same ∙ is.0) in
+          let state : Asleep wish ≡ Awake = sym asleep ∙ (ap (λ (v : SleepView). v.sleep) same ∙ is.0) in
           cc in
           let woken = (each_step (limits_of call) (core_of word) (has_turn word) (has_sleepers word) views j w range keeps.kept at_j).wakes in
-          let later = slice_set views j (with_park w Woken) in
-          let here : slice_get later k ≡ Some me = other_stays views j k (with_park w Woken) me (is_one_of_two j k other) at in
-          let there : slice_get later j ≡ Some (with_park w Woken) = placed views j w (with_park w Woken) at_j in (
+          let later = slice_set views j (with_sleep w Woken) in
+          let here : slice_get later k ≡ Some me = other_stays views j k (with_sleep w Woken) me (is_one_of_two j k other) at in
+          let there : slice_get later j ≡ Some (with_sleep w Woken) = placed views j w (with_sleep w Woken) at_j in (
             as_kept word views k me call range keeps at (slice_set later k (with_debt me debt.Nothing))
-                ((each_step (limits_of call) (core_of word) (has_turn word) (has_sleepers word) later k me range woken here).pays_one j (with_park w Woken)
+                ((each_step (limits_of call) (core_of word) (has_turn word) (has_sleepers word) later k me range woken here).pays_one j (with_sleep w Woken)
                 (owes_one me.debt is.1) (ap is_asleep is.0) other there refl),
             ((is.0, refl), refl),
           );
@@ -268,9 +268,9 @@ sleeps_keep_the_rule =
     }
 
 -- where no party owes a wake-up or is woken, S is set and the word refuses each sleeper
-pub refused_at_rest : (limits : ParkLimits) (word : ℕ) (views : List ParkView) (k : ℕ) (v : ParkView) (wish : ExWant)
-    → Keeps limits word views → slice_get views k ≡ Some v → v.park ≡ Asleep wish
-    → ((j : ℕ) (w : ParkView) → slice_get views j ≡ Some w → (w.debt ≡ debt.Nothing) × (is_woken w.park ≡ false))
+pub refused_at_rest : (limits : WordLimits) (word : ℕ) (views : List SleepView) (k : ℕ) (v : SleepView) (wish : ExWant)
+    → Keeps limits word views → slice_get views k ≡ Some v → v.sleep ≡ Asleep wish
+    → ((j : ℕ) (w : SleepView) → slice_get views j ≡ Some w → (w.debt ≡ debt.Nothing) × (is_woken w.sleep ≡ false))
     → (has_sleepers word ≡ true) × IsRefused limits (core_of word) (has_turn word) v wish
 refused_at_rest limits word views k v wish keeps at asleep rests =
     elim (keeps.kept.none_forgotten k v wish at asleep) [
@@ -280,10 +280,10 @@ refused_at_rest limits word views k v wish keeps at asleep rests =
           let d : reaches limits someone.server.debt v wish ≡ false = ap (λ x. reaches limits x v wish) none.0 in
           elim (or_cases (reaches limits someone.server.debt v wish) (has_duty limits someone.server && not v.held.announced) someone.does) [
             | inl owes ↦ absurd (false≢true (sym d ∙ owes))
-            | inr duty ↦ absurd (by limits.wakes_one someone.server.park none.1 (duty_serves limits someone.server v duty).0)
+            | inr duty ↦ absurd (by limits.wakes_one someone.server.sleep none.1 (duty_serves limits someone.server v duty).0)
           ])
     ]
   where
-    by : (b : Bool) (park : Park) → is_woken park ≡ false → IsTrue (b && is_woken park) → ⊥
-    by true park no_duty duty = false≢true (sym no_duty ∙ duty)
-    by false park no_duty duty = false≢true duty
+    by : (b : Bool) (state : SleepState) → is_woken state ≡ false → IsTrue (b && is_woken state) → ⊥
+    by true state no_duty duty = false≢true (sym no_duty ∙ duty)
+    by false state no_duty duty = false≢true duty

@@ -11,69 +11,69 @@ use Rattle.lock_word.specs.Word.{word_admits, word_after, amount, step_of_want, 
 use Rattle.lock_word.specs.Unblocking.{word_unblocks}
 use Rattle.lock_one.specs.declared.action.Action.{Action}
 use Rattle.lock_one.specs.declared.action.Action.TheVariants as action
-use Rattle.lock_one.specs.declared.call.Call.{Call}
+use Rattle.lock_one.specs.declared.call.WordCall.{WordCall}
 use Rattle.lock_one.specs.declared.stage.Stage.{Stage}
 use Rattle.lock_one.specs.declared.stage.Stage.TheVariants as stage
-use Rattle.lock_one.specs.declared.park.ParkView.{ParkView}
-use Rattle.lock_one.specs.declared.park.Park.{Park}
-use Rattle.lock_one.specs.declared.park.Park.TheVariants.{Awake}
-use Rattle.lock_one.specs.declared.park.Debt.{Debt}
-use Rattle.lock_one.specs.declared.park.Debt.TheVariants as debt
-use Rattle.lock_one.specs.Rule.{is_shared, passes_turn, is_woken, has_duty, KeepsParking, with_park, with_debt}
+use Rattle.lock_one.specs.declared.sleep_view.SleepView.{SleepView}
+use Rattle.lock_one.specs.declared.sleep_view.SleepState.{SleepState}
+use Rattle.lock_one.specs.declared.sleep_view.SleepState.TheVariants.{Awake}
+use Rattle.lock_one.specs.declared.sleep_view.Debt.{Debt}
+use Rattle.lock_one.specs.declared.sleep_view.Debt.TheVariants as debt
+use Rattle.lock_one.specs.Rule.{is_shared, passes_turn, is_woken, has_duty, KeepsSleepers, with_sleep, with_debt}
 use Rattle.lock_one.specs.Machine.{Progress, is_exclusive, turn, sleepers, core_of, has_turn, has_sleepers, with_turn, admits_word, wakes_one, has_slept, is_due, drops_turn, word_unbarred, word_withdrawn, sleep, sets_bar, sets_turn, word_marked, mark_or_sleep, marked, time_out, withdrawn, wait, takes_turn, after_other, after_try, won, decide, release_of, word_released, release_on, subtract, release_again, look_to_remove, wakes, acquired, refused, goes_to, next_at}
 use Rattle.lock_one.specs.Steps.{made, touches, limits_of, is_admitted, Acquires, Acquiring, Awaits, AtRest, IsAt, is_step, Keeps, hold_at}
 use Rattle.lock_one.proofs.Kept.{EachStepKeeps, IsPaid, is_unset, is_unneeded, is_all, after_win, after_take, frees, lock_of, StepKept, StepsKeepTheRule}
-use Rattle.lock_one.proofs.Parking.{each_step, parties_of, party_at, party_of, rule_of}
+use Rattle.lock_one.proofs.EachStep.{each_step, parties_of, party_at, party_of, rule_of}
 use Rattle.lock_word.proofs.Rules.{amount_within, slice_set_same}
 use Rattle.lock_one.proofs.Words.{not_below, and_true, encoded, encoded_core, encoded_low, low_is, encoded_turn, encoded_bit, bit_of, turn_clear, decoded, dropped, lessened, refuses_core, core_refuses_it, refuses_alike, no_both, small_core, keeps_word, or_right, or_false, not_true, and_false, is_awake, refused_is_taken, refused_is_held, leaves_no_bar, rest_leaves, marked_refuses, has_after_announcing, no_duty}
 use Rattle.lock_one.proofs.Payments.{pays_staying, pays}
 
-module _ (word : ℕ) (views : List ParkView) (k : ℕ) (me : ParkView) (call : Call) (before : Hold) (range : IsLimit call.readers)
+module _ (word : ℕ) (views : List SleepView) (k : ℕ) (me : SleepView) (call : WordCall) (before : Hold) (range : IsLimit call.readers)
     (keeps : Keeps (limits_of call) word views) (at : slice_get views k ≡ Some me) where
   steps : EachStepKeeps (limits_of call) (core_of word) (has_turn word) (has_sleepers word) views k me
   steps = each_step (limits_of call) (core_of word) (has_turn word) (has_sleepers word) views k me range keeps.kept at
 
-  abbrev now : Call
+  abbrev now : WordCall
   now = record call { loaded = word }
 
   -- nothing has changed but the call
   same : (next : Progress) → lock_of next.0 ≡ lock_of call → IsAt next.0.stage next.0 me next.1 → me.held ≡ hold_at next.0.stage next.0 before
-      → StepKept (limits_of call) call.sleeps me.park before word views k next
+      → StepKept (limits_of call) call.sleeps me.sleep before word views k next
   same next lock is_at held =
       record {
         you = me;
         keeps = record {
           small = keeps.small;
-          kept = subst (λ vs. KeepsParking (limits_of call) (core_of word) (has_turn word) (has_sleepers word) vs) (sym (slice_set_same views k me at)) keeps.kept;
+          kept = subst (λ vs. KeepsSleepers (limits_of call) (core_of word) (has_turn word) (has_sleepers word) vs) (sym (slice_set_same views k me at)) keeps.kept;
         };
         at = is_at;
         held = held;
-        parked = inl refl;
+        same_or_awake = inl refl;
         same_lock = lock;
       }
 
   -- the word and the party have changed
-  changed : (core : ℕ) (t s : Bool) (you : ParkView) (next : Progress) → KeepsParking (limits_of call) core t s (slice_set views k you)
-      → lock_of next.0 ≡ lock_of call → IsAt next.0.stage next.0 you next.1 → you.held ≡ hold_at next.0.stage next.0 before → you.park ≡ Awake
-      → StepKept (limits_of call) call.sleeps me.park before (encoded core t s) views k next
+  changed : (core : ℕ) (t s : Bool) (you : SleepView) (next : Progress) → KeepsSleepers (limits_of call) core t s (slice_set views k you)
+      → lock_of next.0 ≡ lock_of call → IsAt next.0.stage next.0 you next.1 → you.held ≡ hold_at next.0.stage next.0 before → you.sleep ≡ Awake
+      → StepKept (limits_of call) call.sleeps me.sleep before (encoded core t s) views k next
   changed core t s you next kept lock is_at held awake =
-      record { you = you; keeps = keeps_word (limits_of call) core t s (slice_set views k you) range kept; at = is_at; held = held; parked = inr awake; same_lock = lock }
+      record { you = you; keeps = keeps_word (limits_of call) core t s (slice_set views k you) range kept; at = is_at; held = held; same_or_awake = inr awake; same_lock = lock }
 
-module _ (word : ℕ) (views : List ParkView) (k : ℕ) (me : ParkView) (call : Call) (before : Hold) (range : IsLimit call.readers)
+module _ (word : ℕ) (views : List SleepView) (k : ℕ) (me : SleepView) (call : WordCall) (before : Hold) (range : IsLimit call.readers)
     (keeps : Keeps (limits_of call) word views) (at : slice_get views k ≡ Some me) (mine : me.held ≡ record before { announced = call.announced }) where
-  abbrev here : Call
+  abbrev here : WordCall
   here = record call { loaded = word }
 
   does : EachStepKeeps (limits_of call) (core_of word) (has_turn word) (has_sleepers word) views k me
   does = steps word views k me call before range keeps at
 
   stays : (next : Progress) → lock_of next.0 ≡ lock_of call → IsAt next.0.stage next.0 me next.1 → me.held ≡ hold_at next.0.stage next.0 before
-      → StepKept (limits_of call) call.sleeps me.park before word views k next
+      → StepKept (limits_of call) call.sleeps me.sleep before word views k next
   stays = same word views k me call before range keeps at
 
-  turns_into : (core : ℕ) (t s : Bool) (you : ParkView) (next : Progress) → KeepsParking (limits_of call) core t s (slice_set views k you)
-      → lock_of next.0 ≡ lock_of call → IsAt next.0.stage next.0 you next.1 → you.held ≡ hold_at next.0.stage next.0 before → you.park ≡ Awake
-      → StepKept (limits_of call) call.sleeps me.park before (encoded core t s) views k next
+  turns_into : (core : ℕ) (t s : Bool) (you : SleepView) (next : Progress) → KeepsSleepers (limits_of call) core t s (slice_set views k you)
+      → lock_of next.0 ≡ lock_of call → IsAt next.0.stage next.0 you next.1 → you.held ≡ hold_at next.0.stage next.0 before → you.sleep ≡ Awake
+      → StepKept (limits_of call) call.sleeps me.sleep before (encoded core t s) views k next
   turns_into = changed word views k me call before range keeps at
 
   unannounced : call.announced ≡ false → me.held ≡ record before { announced = false }
@@ -128,15 +128,15 @@ module _ (word : ℕ) (views : List ParkView) (k : ℕ) (me : ParkView) (call : 
         reader = acq.reader;
       }
 
-  refusal : Awaits call me → has_slept call ≡ false → call.announced ≡ false → StepKept (limits_of call) call.sleeps me.park before word views k (refused here)
+  refusal : Awaits call me → has_slept call ≡ false → call.announced ≡ false → StepKept (limits_of call) call.sleeps me.sleep before word views k (refused here)
   refusal aw never no_bar =
-      stays (refused here) refl ((is_awake me.park aw.1 (λ w. true≢false (sym (aw.0.woken w) ∙ never)), aw.0.owes_none), refl) (unannounced no_bar)
+      stays (refused here) refl ((is_awake me.sleep aw.1 (λ w. true≢false (sym (aw.0.woken w) ∙ never)), aw.0.owes_none), refl) (unannounced no_bar)
 
-  given_up : Awaits call me → is_admitted here ≡ false → call.late ≡ true → StepKept (limits_of call) call.sleeps me.park before word views k (time_out here)
+  given_up : Awaits call me → is_admitted here ≡ false → call.late ≡ true → StepKept (limits_of call) call.sleeps me.sleep before word views k (time_out here)
   given_up aw refuses late = by (call.announced || drops_turn here) refl
     where
       leaves : call.announced ≡ false → (b : Bool) → (wakes_one call && (has_slept call && nat_lt word sleepers)) ≡ b
-          → StepKept (limits_of call) call.sleeps me.park before word views k (if b then goes_to (record here { left = word + sleepers }) stage.Leave (action.Exchange word (word + sleepers)) else refused here)
+          → StepKept (limits_of call) call.sleeps me.sleep before word views k (if b then goes_to (record here { left = word + sleepers }) stage.Leave (action.Exchange word (word + sleepers)) else refused here)
       leaves no_bar true e =
           let two = and_parts (wakes_one call) (has_slept call && nat_lt word sleepers) e in
           let three = and_parts (has_slept call) (nat_lt word sleepers) two.1 in
@@ -153,18 +153,18 @@ module _ (word : ℕ) (views : List ParkView) (k : ℕ) (me : ParkView) (call : 
                   taken aw.0 is_one refuses,
                 )) in
                 record {
-                  you = with_park me Awake;
+                  you = with_sleep me Awake;
                   keeps = record { small = keeps.small; kept = kept };
                   at = ((refl, aw.0.owes_none), refl);
                   held = unannounced no_bar;
-                  parked = inr refl;
+                  same_or_awake = inr refl;
                   same_lock = refl;
                 })
             | inr never ↦ refusal aw never no_bar
           ]
 
       by : (b : Bool) → (call.announced || drops_turn here) ≡ b
-          → StepKept (limits_of call) call.sleeps me.park before word views k (if b then goes_to (record here { left = word_withdrawn here }) stage.Withdraw (action.Exchange word (word_withdrawn here))
+          → StepKept (limits_of call) call.sleeps me.sleep before word views k (if b then goes_to (record here { left = word_withdrawn here }) stage.Withdraw (action.Exchange word (word_withdrawn here))
           else if wakes_one call && (has_slept call && nat_lt word sleepers) then goes_to (record here { left = word + sleepers }) stage.Leave (action.Exchange word (word + sleepers)) else refused here)
       by true e = stays (goes_to (record here { left = word_withdrawn here }) stage.Withdraw (action.Exchange word (word_withdrawn here))) refl (
         aw,
@@ -219,11 +219,11 @@ module _ (word : ℕ) (views : List ParkView) (k : ℕ) (me : ParkView) (call : 
   unturned_word true is low = omega arith
   unturned_word false is low = omega arith
 
-  waits : Awaits call me → is_admitted here ≡ false → call.blocks ≡ true → StepKept (limits_of call) call.sleeps me.park before word views k (mark_or_sleep here)
+  waits : Awaits call me → is_admitted here ≡ false → call.blocks ≡ true → StepKept (limits_of call) call.sleeps me.sleep before word views k (mark_or_sleep here)
   waits aw refuses blocks = by (word_marked here == word) refl
     where
       by : (b : Bool) → (word_marked here == word) ≡ b
-          → StepKept (limits_of call) call.sleeps me.park before word views k (if b then sleep here else goes_to (record here { left = word_marked here }) stage.Mark (action.Exchange word (word_marked here)))
+          → StepKept (limits_of call) call.sleeps me.sleep before word views k (if b then sleep here else goes_to (record here { left = word_marked here }) stage.Mark (action.Exchange word (word_marked here)))
       by true e =
           let is : word_marked here ≡ word = eqb-true (word_marked here) word e in
           stays (sleep here) refl (
@@ -244,49 +244,49 @@ module _ (word : ℕ) (views : List ParkView) (k : ℕ) (me : ParkView) (call : 
           ) mine
       by false e = stays (goes_to (record here { left = word_marked here }) stage.Mark (action.Exchange word (word_marked here))) refl (aw, refuses, blocks, refl, refl) mine
 
-  rests : Awaits call me → is_admitted here ≡ false → StepKept (limits_of call) call.sleeps me.park before word views k (wait here)
+  rests : Awaits call me → is_admitted here ≡ false → StepKept (limits_of call) call.sleeps me.sleep before word views k (wait here)
   rests aw refuses = first call.blocks refl
     where
       third : call.blocks ≡ true → (b : Bool)
-          → StepKept (limits_of call) call.sleeps me.park before word views k (if b then goes_to (record here { pauses = call.pauses + 1 }) stage.Pause (action.Spin (if nat_lt call.pauses 3 then call.pauses + 6 else 9)) else mark_or_sleep here)
+          → StepKept (limits_of call) call.sleeps me.sleep before word views k (if b then goes_to (record here { pauses = call.pauses + 1 }) stage.Pause (action.Spin (if nat_lt call.pauses 3 then call.pauses + 6 else 9)) else mark_or_sleep here)
       third blocks true = stays (goes_to (record here { pauses = call.pauses + 1 }) stage.Pause (action.Spin (if nat_lt call.pauses 3 then call.pauses + 6 else 9))) refl (aw, tt) mine
       third blocks false = waits aw refuses blocks
 
       second : call.blocks ≡ true → (b : Bool) → call.late ≡ b
-          → StepKept (limits_of call) call.sleeps me.park before word views k (if b then time_out here
+          → StepKept (limits_of call) call.sleeps me.sleep before word views k (if b then time_out here
           else if nat_lt call.pauses 6 then goes_to (record here { pauses = call.pauses + 1 }) stage.Pause (action.Spin (if nat_lt call.pauses 3 then call.pauses + 6 else 9)) else mark_or_sleep here)
       second blocks true late = given_up aw refuses late
       second blocks false late = third blocks (nat_lt call.pauses 6)
 
       first : (b : Bool) → call.blocks ≡ b
-          → StepKept (limits_of call) call.sleeps me.park before word views k (if not b then refused here else if call.late then time_out here
+          → StepKept (limits_of call) call.sleeps me.sleep before word views k (if not b then refused here else if call.late then time_out here
           else if nat_lt call.pauses 6 then goes_to (record here { pauses = call.pauses + 1 }) stage.Pause (action.Spin (if nat_lt call.pauses 3 then call.pauses + 6 else 9)) else mark_or_sleep here)
       first true e = second e call.late refl
       first false e = refusal aw (aw.0.tries e).0 (aw.0.tries e).1
 
   -- a word was found
-  decided : Awaits call me → StepKept (limits_of call) call.sleeps me.park before word views k (decide word call)
+  decided : Awaits call me → StepKept (limits_of call) call.sleeps me.sleep before word views k (decide word call)
   decided aw = by (is_admitted here) refl
     where
       by : (b : Bool) → is_admitted here ≡ b
-          → StepKept (limits_of call) call.sleeps me.park before word views k (if b then goes_to (record call { loaded = word; left = after_try call word }) stage.Try (action.Exchange word (after_try call word)) else wait here)
+          → StepKept (limits_of call) call.sleeps me.sleep before word views k (if b then goes_to (record call { loaded = word; left = after_try call word }) stage.Try (action.Exchange word (after_try call word)) else wait here)
       by true e = stays (goes_to (record call { loaded = word; left = after_try call word }) stage.Try (action.Exchange word (after_try call word))) refl (aw, e, refl) mine
       by false e = rests aw e
 
   -- an exchange of the loaded word
-  exchanged : (left : ℕ) (next : Progress) → Awaits call me → (word ≡ call.loaded → StepKept (limits_of call) call.sleeps me.park before left views k next)
-      → StepKept (limits_of call) call.sleeps me.park before (if word == call.loaded then left else word) views k (if word == call.loaded then next else decide word call)
+  exchanged : (left : ℕ) (next : Progress) → Awaits call me → (word ≡ call.loaded → StepKept (limits_of call) call.sleeps me.sleep before left views k next)
+      → StepKept (limits_of call) call.sleeps me.sleep before (if word == call.loaded then left else word) views k (if word == call.loaded then next else decide word call)
   exchanged left next aw won = by (word == call.loaded) refl
     where
-      by : (b : Bool) → (word == call.loaded) ≡ b → StepKept (limits_of call) call.sleeps me.park before (if b then left else word) views k (if b then next else decide word call)
+      by : (b : Bool) → (word == call.loaded) ≡ b → StepKept (limits_of call) call.sleeps me.sleep before (if b then left else word) views k (if b then next else decide word call)
       by true e = won (eqb-true word call.loaded e)
       by false e = decided aw
 
   -- the exchange that acquires
   pub tried : Awaits call me → is_admitted here ≡ true → word ≡ call.loaded
-      → StepKept (limits_of call) call.sleeps me.park before (after_try call word) views k (won call)
+      → StepKept (limits_of call) call.sleeps me.sleep before (after_try call word) views k (won call)
   tried aw admits is =
-      subst (λ n. StepKept (limits_of call) call.sleeps me.park before (after_try call word) views k (ended n)) is (kinds (takes_turn call word) refl)
+      subst (λ n. StepKept (limits_of call) call.sleeps me.sleep before (after_try call word) views k (ended n)) is (kinds (takes_turn call word) refl)
     where
       ended : ℕ → Progress
       ended n = if takes_turn call n && has_sleepers n then goes_to call stage.WakeAcquired action.WakeAll else acquired call
@@ -304,7 +304,7 @@ module _ (word : ℕ) (views : List ParkView) (k : ℕ) (me : ParkView) (call : 
 
       -- a reader takes the turn
       taking : wakes_one call ≡ false → (s : Bool) → has_sleepers word ≡ s
-          → StepKept (limits_of call) call.sleeps me.park before (word_after (core_of word) call.want) views k
+          → StepKept (limits_of call) call.sleeps me.sleep before (word_after (core_of word) call.want) views k
           (if s then goes_to call stage.WakeAcquired action.WakeAll else acquired call)
       taking many true e =
           turns_into (word_after (core_of word) call.want) false false (with_debt (after_win me call.want) debt.All) (goes_to call stage.WakeAcquired action.WakeAll)
@@ -316,7 +316,7 @@ module _ (word : ℕ) (views : List ParkView) (k : ℕ) (me : ParkView) (call : 
           refl ((refl, refl), refl, no_bar) holds refl
 
       kinds : (b : Bool) → takes_turn call word ≡ b
-          → StepKept (limits_of call) call.sleeps me.park before (if b then word_after (core_of word) call.want else after_other call word) views k
+          → StepKept (limits_of call) call.sleeps me.sleep before (if b then word_after (core_of word) call.want else after_other call word) views k
           (if b && has_sleepers word then goes_to call stage.WakeAcquired action.WakeAll else acquired call)
       kinds true e = taking (many_of_turn (and_parts (has_turn word) (is_shared call.want) e).0) (has_sleepers word) refl
       kinds false e =
@@ -326,13 +326,13 @@ module _ (word : ℕ) (views : List ParkView) (k : ℕ) (me : ParkView) (call : 
           aw.0.owes_none
           (λ set. or_left (has_sleepers word) (wakes_one call && has_slept call) set)
           (λ duty.
-          let two = and_parts (wakes_one call) (is_woken me.park) duty in
+          let two = and_parts (wakes_one call) (is_woken me.sleep) duty in
           or_right (has_sleepers word) (wakes_one call && has_slept call) (and_from (wakes_one call) (has_slept call) two.0 (aw.0.woken two.1))))
           refl ((refl, refl), refl, no_bar) holds refl
 
   -- the exchange that clears the bar. In a mutex it leaves S on a word that refuses
   has_unbarred : Awaits call me → is_admitted here ≡ false → call.announced ≡ true → call.loaded ≡ word
-      → StepKept (limits_of call) call.sleeps me.park before (encoded (core_of word - 2 ^ 34) (has_turn word) (wakes_one call)) views k (withdrawn call)
+      → StepKept (limits_of call) call.sleeps me.sleep before (encoded (core_of word - 2 ^ 34) (has_turn word) (wakes_one call)) views k (withdrawn call)
   has_unbarred aw refuses announced is = kind (wakes_one call) refl
     where
       has : IsTrue (hold_has me.held (step_of_down down.Withdraw))
@@ -342,7 +342,7 @@ module _ (word : ℕ) (views : List ParkView) (k : ℕ) (me : ParkView) (call : 
       cleared e = ap (λ (h : Hold). record h { announced = false }) e
 
       in_mutex : wakes_one call ≡ true → (d : Bool) → d ≡ false
-          → StepKept (limits_of call) call.sleeps me.park before (encoded (core_of word - 2 ^ 34) (has_turn word) true) views k
+          → StepKept (limits_of call) call.sleeps me.sleep before (encoded (core_of word - 2 ^ 34) (has_turn word) true) views k
           (if d then goes_to (record call { announced = false; turned = false }) stage.WakeRefused action.WakeAll else refused (record call { announced = false; turned = false }))
       in_mutex one true e = absurd (true≢false e)
       in_mutex one false e =
@@ -352,7 +352,7 @@ module _ (word : ℕ) (views : List ParkView) (k : ℕ) (me : ParkView) (call : 
           refl ((refl, refl), refl) (cleared mine) refl
 
       in_others : wakes_one call ≡ false → (b : Bool) → (has_sleepers call.loaded && not (wakes_one call)) ≡ b
-          → StepKept (limits_of call) call.sleeps me.park before (encoded (core_of word - 2 ^ 34) (has_turn word) false) views k
+          → StepKept (limits_of call) call.sleeps me.sleep before (encoded (core_of word - 2 ^ 34) (has_turn word) false) views k
           (if b then goes_to (record call { announced = false; turned = false }) stage.WakeRefused action.WakeAll else refused (record call { announced = false; turned = false }))
       in_others many true e =
           turns_into (core_of word - 2 ^ 34) (has_turn word) false (after_take me down.Withdraw debt.All)
@@ -367,13 +367,13 @@ module _ (word : ℕ) (views : List ParkView) (k : ℕ) (me : ParkView) (call : 
           refl ((refl, refl), refl) (cleared mine) refl
 
       kind : (b : Bool) → wakes_one call ≡ b
-          → StepKept (limits_of call) call.sleeps me.park before (encoded (core_of word - 2 ^ 34) (has_turn word) b) views k (withdrawn call)
+          → StepKept (limits_of call) call.sleeps me.sleep before (encoded (core_of word - 2 ^ 34) (has_turn word) b) views k (withdrawn call)
       kind true e = in_mutex e (has_sleepers call.loaded && not (wakes_one call)) (ap (λ b. has_sleepers call.loaded && not b) e ∙ and_false (has_sleepers call.loaded))
       kind false e = in_others e (has_sleepers call.loaded && not (wakes_one call)) refl
 
   -- the exchange that clears T
   has_dropped : Awaits call me → call.turned ≡ true → has_turn word ≡ true → call.loaded ≡ word
-      → StepKept (limits_of call) call.sleeps me.park before (encoded (core_of word) false (has_sleepers word)) views k (withdrawn call)
+      → StepKept (limits_of call) call.sleeps me.sleep before (encoded (core_of word) false (has_sleepers word)) views k (withdrawn call)
   has_dropped aw turned set is =
       by (has_sleepers call.loaded && not (wakes_one call)) refl
     where
@@ -384,31 +384,31 @@ module _ (word : ℕ) (views : List ParkView) (k : ℕ) (me : ParkView) (call : 
       mine_bare = unannounced (false_from_ne_true call.announced (λ own. no_both call.want (aw.0.writer own) (aw.0.reader turned)))
 
       by : (b : Bool) → (has_sleepers call.loaded && not (wakes_one call)) ≡ b
-          → StepKept (limits_of call) call.sleeps me.park before (encoded (core_of word) false (has_sleepers word)) views k
+          → StepKept (limits_of call) call.sleeps me.sleep before (encoded (core_of word) false (has_sleepers word)) views k
           (if b then goes_to (record call { announced = false; turned = false }) stage.WakeRefused action.WakeAll else refused (record call { announced = false; turned = false }))
       by true e =
-          turns_into (core_of word) false (has_sleepers word) (with_debt (with_park me Awake) debt.All) (goes_to (record call { announced = false; turned = false }) stage.WakeRefused action.WakeAll)
+          turns_into (core_of word) false (has_sleepers word) (with_debt (with_sleep me Awake) debt.All) (goes_to (record call { announced = false; turned = false }) stage.WakeRefused action.WakeAll)
           (does.drops_turn debt.All aw.0.owes_none many (λ was. refl)) refl (refl, refl, refl) mine_bare refl
       by false e =
           let clear : has_sleepers word ≡ false
           = ap has_sleepers (sym is) ∙ (sym (and_true (has_sleepers call.loaded)) ∙ (ap (λ b. has_sleepers call.loaded && not b) (sym many) ∙ e)) in
-          turns_into (core_of word) false (has_sleepers word) (with_debt (with_park me Awake) debt.Nothing) (refused (record call { announced = false; turned = false }))
+          turns_into (core_of word) false (has_sleepers word) (with_debt (with_sleep me Awake) debt.Nothing) (refused (record call { announced = false; turned = false }))
           (does.drops_turn debt.Nothing aw.0.owes_none many (λ was. absurd (false≢true (sym clear ∙ was)))) refl ((refl, refl), refl) mine_bare refl
 
   pub has_withdrawn : Awaits call me → is_admitted here ≡ false → (call.announced ≡ true) ⊎ ((call.turned ≡ true) × (has_turn call.loaded ≡ true)) → call.loaded ≡ word
-      → StepKept (limits_of call) call.sleeps me.park before (word_withdrawn here) views k (withdrawn call)
+      → StepKept (limits_of call) call.sleeps me.sleep before (word_withdrawn here) views k (withdrawn call)
   has_withdrawn aw refuses (inl own) is =
-      subst (λ b. StepKept (limits_of call) call.sleeps me.park before (if b then word_unbarred here else word - turn) views k (withdrawn call)) (sym own)
+      subst (λ b. StepKept (limits_of call) call.sleeps me.sleep before (if b then word_unbarred here else word - turn) views k (withdrawn call)) (sym own)
       (has_unbarred aw refuses own is)
   has_withdrawn aw refuses (inr turns) is =
       let set : has_turn word ≡ true = ap has_turn (sym is) ∙ turns.1 in
       let bare : call.announced ≡ false = false_from_ne_true call.announced (λ own. no_both call.want (aw.0.writer own) (aw.0.reader turns.0)) in
-      subst (λ b. StepKept (limits_of call) call.sleeps me.park before (if b then word_unbarred here else word - turn) views k (withdrawn call)) (sym bare)
-      (subst (λ n. StepKept (limits_of call) call.sleeps me.park before n views k (withdrawn call)) (dropped word keeps.small set)
+      subst (λ b. StepKept (limits_of call) call.sleeps me.sleep before (if b then word_unbarred here else word - turn) views k (withdrawn call)) (sym bare)
+      (subst (λ n. StepKept (limits_of call) call.sleeps me.sleep before n views k (withdrawn call)) (dropped word keeps.small set)
       (has_dropped aw turns.0 set is))
 
   -- the exchange by which a late call of a mutex sets S
-  has_left : Awaits call me → is_admitted here ≡ false → call.announced ≡ false → IsTrue (wakes_one call) → word < sleepers → StepKept (limits_of call) call.sleeps me.park before (word + sleepers) views k (refused call)
+  has_left : Awaits call me → is_admitted here ≡ false → call.announced ≡ false → IsTrue (wakes_one call) → word < sleepers → StepKept (limits_of call) call.sleeps me.sleep before (word + sleepers) views k (refused call)
   has_left aw refuses no_bar one low =
       let clear = turn_clear word (keeps.kept.no_turn one) in
       let bare : core_of word ≡ word = omega arith in
@@ -416,8 +416,8 @@ module _ (word : ℕ) (views : List ParkView) (k : ℕ) (me : ParkView) (call : 
       let later = each_step (limits_of call) (core_of word) (has_turn word) true views k me range marks at in
       let kept = later.stops aw.0.owes_none (λ is_one. (refl, taken aw.0 is_one refuses)) in
       let whole : with_turn (core_of word) (has_turn word) ≡ word = ap (λ b. with_turn (core_of word) b) (keeps.kept.no_turn one) ∙ bare in
-      subst (λ c. StepKept (limits_of call) call.sleeps me.park before (c + sleepers) views k (refused call)) whole
-      (turns_into (core_of word) (has_turn word) true (with_park me Awake) (refused call) kept refl ((refl, aw.0.owes_none), refl) (unannounced no_bar) refl)
+      subst (λ c. StepKept (limits_of call) call.sleeps me.sleep before (c + sleepers) views k (refused call)) whole
+      (turns_into (core_of word) (has_turn word) true (with_sleep me Awake) (refused call) kept refl ((refl, aw.0.owes_none), refl) (unannounced no_bar) refl)
 
   -- the exchange that sets S, and the bar or T
 
@@ -430,7 +430,7 @@ module _ (word : ℕ) (views : List ParkView) (k : ℕ) (me : ParkView) (call : 
 
   -- it sets the bar
   marks_bar : Awaits call me → is_admitted here ≡ false → call.blocks ≡ true → sets_bar here ≡ true → call.left ≡ encoded (core_of word + 2 ^ 34) false true
-      → StepKept (limits_of call) call.sleeps me.park before (encoded (core_of word + 2 ^ 34) false true) views k (marked_as true false)
+      → StepKept (limits_of call) call.sleeps me.sleep before (encoded (core_of word + 2 ^ 34) false true) views k (marked_as true false)
   marks_bar aw refuses blocks sets is_left =
       let one = and_parts call.announces (is_exclusive call.want && (not call.announced && (is_due call && nat_lt (word % sleepers) (2 ^ 34)))) sets in
       let exclusive = and_parts (is_exclusive call.want) (not call.announced && (is_due call && nat_lt (word % sleepers) (2 ^ 34))) one.1 in
@@ -447,7 +447,7 @@ module _ (word : ℕ) (views : List ParkView) (k : ℕ) (me : ParkView) (call : 
       let still : (call.turned || false) ≡ false = or_false call.turned ∙ bare in
       let core_left = ap core_of is_left ∙ encoded_core (core_of word + 2 ^ 34) false true more in
       turns_into (core_of word + 2 ^ 34) false true (after_win me want.Announce) (marked_as true false)
-      (subst (λ t. KeepsParking (limits_of call) (core_of word + 2 ^ 34) t true (slice_set views k (after_win me want.Announce))) clear kept) refl (
+      (subst (λ t. KeepsSleepers (limits_of call) (core_of word + 2 ^ 34) t true (slice_set views k (after_win me want.Announce))) clear kept) refl (
         record {
           awaited = aw.0.awaited;
           has = has_after_announcing me call.want aw.0.awaited aw.0.has;
@@ -474,7 +474,7 @@ module _ (word : ℕ) (views : List ParkView) (k : ℕ) (me : ParkView) (call : 
 
   -- it sets T
   marks_turn : Awaits call me → is_admitted here ≡ false → call.blocks ≡ true → sets_turn here ≡ true → call.left ≡ encoded (core_of word) true true
-      → StepKept (limits_of call) call.sleeps me.park before (encoded (core_of word) true true) views k (marked_as false true)
+      → StepKept (limits_of call) call.sleeps me.sleep before (encoded (core_of word) true true) views k (marked_as false true)
   marks_turn aw refuses blocks sets is_left =
       let rest = (call.sleeps == 4) && (nat_lt (word % sleepers) turn && not (nat_lt (word % sleepers) (2 ^ 33))) in
       let reads = and_parts (is_shared call.want) (not (wakes_one call) && rest) sets in
@@ -490,7 +490,7 @@ module _ (word : ℕ) (views : List ParkView) (k : ℕ) (me : ParkView) (call : 
             subst (λ vs. Keeps (limits_of call) (encoded (core_of word) true true) vs) (sym (slice_set_same views k me at))
             (keeps_word (limits_of call) (core_of word) true true views range (does.turns many));
         held = mine ∙ ap (λ a. record before { announced = a }) (sym bare);
-        parked = inl refl;
+        same_or_awake = inl refl;
         at = (
           record {
             awaited = aw.0.awaited;
@@ -526,7 +526,7 @@ module _ (word : ℕ) (views : List ParkView) (k : ℕ) (me : ParkView) (call : 
 
   -- it sets S alone
   marks_bit : Awaits call me → is_admitted here ≡ false → call.blocks ≡ true → sets_bar here ≡ false → sets_turn here ≡ false → call.left ≡ encoded (core_of word) (has_turn word) true
-      → StepKept (limits_of call) call.sleeps me.park before (encoded (core_of word) (has_turn word) true) views k (marked_as false false)
+      → StepKept (limits_of call) call.sleeps me.sleep before (encoded (core_of word) (has_turn word) true) views k (marked_as false false)
   marks_bit aw refuses blocks no_bar no_turn is_left =
       let bare : (call.announced || false) ≡ call.announced = or_false call.announced in
       let still : (call.turned || false) ≡ call.turned = or_false call.turned in
@@ -543,7 +543,7 @@ module _ (word : ℕ) (views : List ParkView) (k : ℕ) (me : ParkView) (call : 
             subst (λ vs. Keeps (limits_of call) (encoded (core_of word) t true) vs) (sym (slice_set_same views k me at))
             (keeps_word (limits_of call) (core_of word) t true views range does.marks);
         held = mine ∙ ap (λ a. record before { announced = a }) (sym bare);
-        parked = inl refl;
+        same_or_awake = inl refl;
         at = (
           subst (λ a. Acquires call.want a (call.turned || false) true call.blocks (is_due call) me) (sym bare)
               (subst (λ b. Acquires call.want call.announced b true call.blocks (is_due call) me) (sym still) (sleeping aw.0 blocks)),
@@ -562,9 +562,9 @@ module _ (word : ℕ) (views : List ParkView) (k : ℕ) (me : ParkView) (call : 
       }
 
   pub has_marked : Awaits call me → is_admitted here ≡ false → call.blocks ≡ true → call.loaded ≡ word → call.left ≡ word_marked call
-      → StepKept (limits_of call) call.sleeps me.park before (word_marked call) views k (marked call)
+      → StepKept (limits_of call) call.sleeps me.sleep before (word_marked call) views k (marked call)
   has_marked aw refuses blocks is left =
-      subst (λ n. StepKept (limits_of call) call.sleeps me.park before
+      subst (λ n. StepKept (limits_of call) call.sleeps me.sleep before
       (with_turn (core_of n + (if sets_bar (record call { loaded = n }) then 2 ^ 34 else 0)) (has_turn n || sets_turn (record call { loaded = n })) + sleepers)
       views k (marked_as (sets_bar (record call { loaded = n })) (sets_turn (record call { loaded = n })))) (sym is)
       (by (sets_bar here) (sets_turn here) refl refl)
@@ -578,7 +578,7 @@ module _ (word : ℕ) (views : List ParkView) (k : ℕ) (me : ParkView) (call : 
           ∙ ap (λ x. with_turn (core_of word + (if b then 2 ^ 34 else 0)) (has_turn word || x) + sleepers) ec))
 
       by : (b c : Bool) → sets_bar here ≡ b → sets_turn here ≡ c
-          → StepKept (limits_of call) call.sleeps me.park before (with_turn (core_of word + (if b then 2 ^ 34 else 0)) (has_turn word || c) + sleepers) views k (marked_as b c)
+          → StepKept (limits_of call) call.sleeps me.sleep before (with_turn (core_of word + (if b then 2 ^ 34 else 0)) (has_turn word || c) + sleepers) views k (marked_as b c)
       by true true eb ec =
           let rest = not (wakes_one call) && ((call.sleeps == 4) && (nat_lt (word % sleepers) turn && not (nat_lt (word % sleepers) (2 ^ 33)))) in
           let one = and_parts call.announces (is_exclusive call.want && (not call.announced && (is_due call && nat_lt (word % sleepers) (2 ^ 34)))) eb in
@@ -589,37 +589,37 @@ module _ (word : ℕ) (views : List ParkView) (k : ℕ) (me : ParkView) (call : 
           let clear : (has_turn word || false) ≡ false = or_false (has_turn word) ∙ low_is (word % 2 ^ 36) (2 ^ 35) (omega arith) in
           let same : with_turn (core_of word + 2 ^ 34) (has_turn word || false) + sleepers ≡ encoded (core_of word + 2 ^ 34) false true
           = ap (λ t. with_turn (core_of word + 2 ^ 34) t + sleepers) clear in
-          subst (λ n. StepKept (limits_of call) call.sleeps me.park before n views k (marked_as true false)) (sym same)
+          subst (λ n. StepKept (limits_of call) call.sleeps me.sleep before n views k (marked_as true false)) (sym same)
           (marks_bar aw refuses blocks eb (sums true false eb ec ∙ same))
       by false true eb ec =
           let set : (has_turn word || true) ≡ true = or_right (has_turn word) true refl in
           let same : with_turn (core_of word + 0) (has_turn word || true) + sleepers ≡ encoded (core_of word) true true
           = ap (λ t. with_turn (core_of word + 0) t + sleepers) set ∙ omega arith in
-          subst (λ n. StepKept (limits_of call) call.sleeps me.park before n views k (marked_as false true)) (sym same)
+          subst (λ n. StepKept (limits_of call) call.sleeps me.sleep before n views k (marked_as false true)) (sym same)
           (marks_turn aw refuses blocks ec (sums false true eb ec ∙ same))
       by false false eb ec =
           let same : with_turn (core_of word + 0) (has_turn word || false) + sleepers ≡ encoded (core_of word) (has_turn word) true
           = ap (λ t. with_turn (core_of word + 0) t + sleepers) (or_false (has_turn word)) ∙ ap (λ n. with_turn n (has_turn word) + sleepers) (omega arith) in
-          subst (λ n. StepKept (limits_of call) call.sleeps me.park before n views k (marked_as false false)) (sym same)
+          subst (λ n. StepKept (limits_of call) call.sleeps me.sleep before n views k (marked_as false false)) (sym same)
           (marks_bit aw refuses blocks eb ec (sums false false eb ec ∙ same))
 
-module _ (word : ℕ) (views : List ParkView) (k : ℕ) (me : ParkView) (call : Call) (before : Hold) (range : IsLimit call.readers)
+module _ (word : ℕ) (views : List SleepView) (k : ℕ) (me : SleepView) (call : WordCall) (before : Hold) (range : IsLimit call.readers)
     (keeps : Keeps (limits_of call) word views) (at : slice_get views k ≡ Some me) where
   -- the party has released, and S is set after it or is not
   has_released : (now : Bool) → IsTrue (hold_has me.held (step_of_down call.down)) → AtRest me → me.held ≡ before
       → IsPaid (limits_of call) (core_of word) (core_of word - amount call.down) (has_turn word) (has_sleepers word) now (release_of call.readers word call.down).1
-      → StepKept (limits_of call) call.sleeps me.park before (encoded (core_of word - amount call.down) (has_turn word) now) views k (wakes (release_of call.readers word call.down).1 call)
+      → StepKept (limits_of call) call.sleeps me.sleep before (encoded (core_of word - amount call.down) (has_turn word) now) views k (wakes (release_of call.readers word call.down).1 call)
   has_released now has rests mine paid =
       let core = core_of word - amount call.down in
       let r = release_of call.readers word call.down in
       let you = after_take me call.down r.1 in
-      let idle : has_duty (limits_of call) me ≡ false = idle_at me.park rests.0 in
+      let idle : has_duty (limits_of call) me ≡ false = idle_at me.sleep rests.0 in
       changed word views k me call before range keeps at core (has_turn word) now you (wakes r.1 call)
       ((steps word views k me call before range keeps at).take call.down now r.1 has rests.1 (λ duty. absurd (false≢true (sym idle ∙ duty))) paid)
       (lock r.1) (placed_at r.1) (holds_at r.1) refl
     where
-      idle_at : (park : Park) → park ≡ Awake → (wakes_one call && is_woken park) ≡ false
-      idle_at park e = rw e (and_false (wakes_one call))
+      idle_at : (state : SleepState) → state ≡ Awake → (wakes_one call && is_woken state) ≡ false
+      idle_at state e = rw e (and_false (wakes_one call))
 
       lock : (d : Debt) → lock_of (wakes d call).0 ≡ lock_of call
       lock debt.Nothing = refl
@@ -643,39 +643,39 @@ module _ (word : ℕ) (views : List ParkView) (k : ℕ) (me : ParkView) (call : 
       holds_at debt.Turn = ap (λ h. hold_after h (step_of_down call.down)) mine
 
   pub has_freed : IsTrue (hold_has me.held (step_of_down call.down)) → AtRest me → call.loaded ≡ word → me.held ≡ before
-      → StepKept (limits_of call) call.sleeps me.park before (word_released call.readers word call.down) views k (wakes (release_of call.readers word call.down).1 call)
+      → StepKept (limits_of call) call.sleeps me.sleep before (word_released call.readers word call.down) views k (wakes (release_of call.readers word call.down).1 call)
   has_freed has rests is mine =
       has_released (release_of call.readers word call.down).0 has rests mine
       (pays (has_sleepers word) call.readers word (core_of word - amount call.down))
 
   -- the subtraction
   pub has_subtracted : IsTrue (hold_has me.held (step_of_down call.down)) → AtRest me → me.held ≡ before
-      → StepKept (limits_of call) call.sleeps me.park before (word - amount call.down) views k (wakes (release_of call.readers word call.down).1 call)
+      → StepKept (limits_of call) call.sleeps me.sleep before (word - amount call.down) views k (wakes (release_of call.readers word call.down).1 call)
   has_subtracted has rests mine =
       let within = amount_within call.readers (core_of word) (parties_of views) k (party_of me) call.down
       (rule_of call.readers (core_of word) views keeps.kept.coded keeps.kept.legal) (party_at views k me at) has in
-      subst (λ n. StepKept (limits_of call) call.sleeps me.park before n views k (wakes (release_of call.readers word call.down).1 call))
+      subst (λ n. StepKept (limits_of call) call.sleeps me.sleep before n views k (wakes (release_of call.readers word call.down).1 call))
       (lessened word (amount call.down) keeps.small within)
       (has_released (has_sleepers word) has rests mine (pays_staying (has_sleepers word) call.readers word (core_of word - amount call.down)))
 
   -- the action is this one, and its answer is the word
   looked : (a x : Action) (found : ℕ) (f : ℕ → Progress) → a ≡ x → touches x ≡ true → (IsTrue (touches a) → found ≡ word)
-      → StepKept (limits_of call) call.sleeps me.park before (made x word) views k (f word) → StepKept (limits_of call) call.sleeps me.park before (made a word) views k (f found)
+      → StepKept (limits_of call) call.sleeps me.sleep before (made x word) views k (f word) → StepKept (limits_of call) call.sleeps me.sleep before (made a word) views k (f found)
   looked a x found f is reads answer kept =
       let same_word : found ≡ word = answer (ap touches is ∙ reads) in
-      subst (λ y. StepKept (limits_of call) call.sleeps me.park before (made y word) views k (f found)) (sym is)
-      (subst (λ n. StepKept (limits_of call) call.sleeps me.park before (made x word) views k (f n)) (sym same_word) kept)
+      subst (λ y. StepKept (limits_of call) call.sleeps me.sleep before (made y word) views k (f found)) (sym is)
+      (subst (λ n. StepKept (limits_of call) call.sleeps me.sleep before (made x word) views k (f n)) (sym same_word) kept)
 
   step_at : (st : Stage) (a : Action) (found : ℕ) → IsAt st call me a → me.held ≡ hold_at st call before → is_step st ≡ true → (IsTrue (touches a) → found ≡ word)
-      → StepKept (limits_of call) call.sleeps me.park before (made a word) views k (next_at st found call)
+      → StepKept (limits_of call) call.sleeps me.sleep before (made a word) views k (next_at st found call)
   step_at stage.Look a found is_at held step answer = looked a action.Load found (λ n. decide n call) is_at.1 refl answer (decided word views k me call before range keeps at held is_at.0)
   step_at stage.Try a found is_at held step answer =
       looked a (action.Exchange call.loaded (after_try call call.loaded)) found (λ n. if n == call.loaded then won call else decide n call) is_at.2 refl answer
       (exchanged word views k me call before range keeps at held (after_try call call.loaded) (won call) is_at.0 (λ is.
-      subst (λ n. StepKept (limits_of call) call.sleeps me.park before (after_try call n) views k (won call)) is
+      subst (λ n. StepKept (limits_of call) call.sleeps me.sleep before (after_try call n) views k (won call)) is
       (tried word views k me call before range keeps at held is_at.0 (subst (λ n. admits_word call.announced call.readers n call.want ≡ true) (sym is) is_at.1) is)))
   step_at stage.Pause a found is_at held step answer =
-      subst (λ w. StepKept (limits_of call) call.sleeps me.park before w views k (goes_to call stage.Look action.Load)) (sym (rest_leaves a word is_at.1))
+      subst (λ w. StepKept (limits_of call) call.sleeps me.sleep before w views k (goes_to call stage.Look action.Load)) (sym (rest_leaves a word is_at.1))
       (same word views k me call before range keeps at (goes_to call stage.Look action.Load) refl (is_at.0, refl) held)
   step_at stage.Mark a found is_at held step answer =
       looked a (action.Exchange call.loaded (word_marked call)) found (λ n. if n == call.loaded then marked call else decide n call) is_at.4 refl answer
@@ -685,17 +685,17 @@ module _ (word : ℕ) (views : List ParkView) (k : ℕ) (me : ParkView) (call : 
   step_at stage.Withdraw a found is_at held step answer =
       looked a (action.Exchange call.loaded (word_withdrawn call)) found (λ n. if n == call.loaded then withdrawn call else decide n call) is_at.4 refl answer
       (exchanged word views k me call before range keeps at held (word_withdrawn call) (withdrawn call) is_at.0 (λ is.
-      subst (λ n. StepKept (limits_of call) call.sleeps me.park before (word_withdrawn (record call { loaded = n })) views k (withdrawn call)) is
+      subst (λ n. StepKept (limits_of call) call.sleeps me.sleep before (word_withdrawn (record call { loaded = n })) views k (withdrawn call)) is
       (has_withdrawn word views k me call before range keeps at held is_at.0 (subst (λ n. admits_word call.announced call.readers n call.want ≡ false) (sym is) is_at.1) is_at.2 (sym is))))
   step_at stage.Leave a found is_at held step answer =
       looked a (action.Exchange call.loaded (call.loaded + sleepers)) found (λ n. if n == call.loaded then refused call else decide n call) is_at.4 refl answer
       (exchanged word views k me call before range keeps at held (call.loaded + sleepers) (refused call) is_at.0 (λ is.
-      subst (λ n. StepKept (limits_of call) call.sleeps me.park before (n + sleepers) views k (refused call)) is
+      subst (λ n. StepKept (limits_of call) call.sleeps me.sleep before (n + sleepers) views k (refused call)) is
       (has_left word views k me call before range keeps at held is_at.0 (subst (λ n. admits_word call.announced call.readers n call.want ≡ false) (sym is) is_at.1) is_at.2 is_at.5 (subst (λ n. n < sleepers) (sym is) is_at.3))))
   step_at stage.LookToRemove a found is_at held step answer =
       looked a action.Load found (λ n. look_to_remove n call) is_at.2 refl answer (chosen (has_sleepers word))
     where
-      chosen : (b : Bool) → StepKept (limits_of call) call.sleeps me.park before word views k (if b then release_on word call else subtract call)
+      chosen : (b : Bool) → StepKept (limits_of call) call.sleeps me.sleep before word views k (if b then release_on word call else subtract call)
       chosen true = same word views k me call before range keeps at (release_on word call) refl (is_at.0, is_at.1, refl) held
       chosen false = same word views k me call before range keeps at (subtract call) refl (is_at.0, is_at.1, refl) held
   step_at stage.Subtract a found is_at held step answer =
@@ -706,16 +706,16 @@ module _ (word : ℕ) (views : List ParkView) (k : ℕ) (me : ParkView) (call : 
       (λ n. if n == call.loaded then wakes (release_of call.readers call.loaded call.down).1 call else release_again n call) is_at.2 refl answer
       (freed (word == call.loaded) refl)
     where
-      again : (b : Bool) → StepKept (limits_of call) call.sleeps me.park before word views k (if b then release_on word (record call { pauses = call.pauses + 1 }) else subtract call)
+      again : (b : Bool) → StepKept (limits_of call) call.sleeps me.sleep before word views k (if b then release_on word (record call { pauses = call.pauses + 1 }) else subtract call)
       again true = same word views k me call before range keeps at (release_on word (record call { pauses = call.pauses + 1 })) refl (is_at.0, is_at.1, refl) held
       again false = same word views k me call before range keeps at (subtract call) refl (is_at.0, is_at.1, refl) held
 
       freed : (b : Bool) → (word == call.loaded) ≡ b
-          → StepKept (limits_of call) call.sleeps me.park before (if b then word_released call.readers call.loaded call.down else word) views k
+          → StepKept (limits_of call) call.sleeps me.sleep before (if b then word_released call.readers call.loaded call.down else word) views k
           (if b then wakes (release_of call.readers call.loaded call.down).1 call else release_again word call)
       freed true e =
           let is = eqb-true word call.loaded e in
-          subst (λ n. StepKept (limits_of call) call.sleeps me.park before (word_released call.readers n call.down) views k (wakes (release_of call.readers n call.down).1 call)) is
+          subst (λ n. StepKept (limits_of call) call.sleeps me.sleep before (word_released call.readers n call.down) views k (wakes (release_of call.readers n call.down).1 call)) is
           (has_freed is_at.0 is_at.1 (sym is) held)
       freed false e = again (nat_lt call.pauses 8)
   step_at stage.Wake a found is_at held step answer = absurd (false≢true step)

@@ -13,13 +13,13 @@ use Rattle.lock_word.specs.Holders.{all_of}
 use Rattle.lock_word.specs.Word.{readers_of_word, amount, step_of_down}
 use Rattle.lock_word.proofs.Words.{parts_of_word}
 use Rattle.lock_word.proofs.Rules.{amount_within, shows}
-use Rattle.lock_one.specs.declared.park.ParkLimits.{ParkLimits}
-use Rattle.lock_one.specs.declared.park.ParkView.{ParkView}
+use Rattle.lock_one.specs.declared.sleep_view.WordLimits.{WordLimits}
+use Rattle.lock_one.specs.declared.sleep_view.SleepView.{SleepView}
 use Rattle.lock_one.specs.Rule.{holds_of}
 use Rattle.lock_one.specs.Machine.{core_of}
 use Rattle.lock_one.specs.Steps.{Keeps}
 use Rattle.lock_one.specs.Stored.{stored_of, word_of_stored, stored_amount, StoringKeepsWords}
-use Rattle.lock_one.proofs.Parking.{parties_of, party_of, party_at, rule_of}
+use Rattle.lock_one.proofs.EachStep.{parties_of, party_of, party_at, rule_of}
 
 pub read_back : (word : ℕ) → word < 2 ^ 37 → word_of_stored (stored_of word) ≡ word
 read_back word small = omega arith
@@ -30,7 +30,7 @@ stored_again stored small = omega arith
 pub few : (limit : ℕ) (all : BarredBag) → IsLegalBarredBag limit all → readers all.bag ≤ limit
 few limit all legal = grind arith
 
-in_half : (limits : ParkLimits) (word : ℕ) (views : List ParkView) → IsLimit limits.readers → limits.readers < 2 ^ 27
+in_half : (limits : WordLimits) (word : ℕ) (views : List SleepView) → IsLimit limits.readers → limits.readers < 2 ^ 27
     → Keeps limits word views → stored_of word < 2 ^ 32
 in_half limits word views range less keeps =
     let all = all_of (holds_of views) in
@@ -85,7 +85,7 @@ less limit word modulus own down.UpgradableToShared small within has seen before
 less limit word modulus own down.Withdraw small within has seen before after =
     falls (stored_of word) 4 (stored_of (word - amount down.Withdraw)) modulus (omega arith) before
 
-subtracts : (limits : ParkLimits) (word : ℕ) (views : List ParkView) (k : ℕ) (me : ParkView) (d : Down) (modulus : ℕ) → IsLimit limits.readers
+subtracts : (limits : WordLimits) (word : ℕ) (views : List SleepView) (k : ℕ) (me : SleepView) (d : Down) (modulus : ℕ) → IsLimit limits.readers
     → Keeps limits word views → slice_get views k ≡ Some me → IsTrue (hold_has me.held (step_of_down d))
     → stored_of word < modulus → stored_of (word - amount d) < modulus
     → (stored_of word + (modulus - stored_amount modulus d)) % modulus ≡ stored_of (word - amount d)

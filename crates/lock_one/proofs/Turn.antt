@@ -16,12 +16,12 @@ use Rattle.lock_word.proofs.Lists.{placed}
 use Rattle.lock_one.specs.declared.action.Action.{Action}
 use Rattle.lock_one.specs.declared.action.Action.TheVariants as action
 use Rattle.lock_one.specs.declared.action.Sleeper.{Sleeper}
-use Rattle.lock_one.specs.declared.call.Call.{Call}
+use Rattle.lock_one.specs.declared.call.WordCall.{WordCall}
 use Rattle.lock_one.specs.declared.stage.Stage.{Stage}
 use Rattle.lock_one.specs.declared.stage.Stage.TheVariants as stage
-use Rattle.lock_one.specs.declared.park.ParkView.{ParkView}
-use Rattle.lock_one.specs.declared.park.Debt.{Debt}
-use Rattle.lock_one.specs.declared.park.Debt.TheVariants as debt
+use Rattle.lock_one.specs.declared.sleep_view.SleepView.{SleepView}
+use Rattle.lock_one.specs.declared.sleep_view.Debt.{Debt}
+use Rattle.lock_one.specs.declared.sleep_view.Debt.TheVariants as debt
 use Rattle.lock_one.specs.Rule.{is_asleep, is_shared, passes_turn}
 use Rattle.lock_one.specs.Machine.{Progress, is_exclusive, turn, sleepers, core_of, has_turn, has_sleepers, with_turn, with_sleepers, admits_word, wakes_one, has_slept, is_due, pauses_before, exchanges_before, sets_bar, sets_turn, word_marked, marked, drops_turn, word_unbarred, word_withdrawn, withdrawn, takes_turn, after_try, won, decide, goes_to, release_on, release_of, word_released, release_again, look_to_remove, acquiring, taking, subtract, wakes, refused, acquired, next_at, next_of}
 use Rattle.lock_one.specs.Steps.{made, touches, hold_at, Awaits, IsAt, is_step}
@@ -29,13 +29,13 @@ use Rattle.lock_one.specs.Runs.{Underway, Thread, LockInUse, views_of, limits_in
 use Rattle.lock_one.specs.Bars.{in_use}
 use Rattle.lock_one.specs.Turn.{tokens_of, acquires_by, acquisitions, keeps_turn, EndsTurn, ReadersGetATurn}
 use Rattle.lock_one.proofs.Either.{of_either}
-use Rattle.lock_one.proofs.Parking.{parties_of, party_of, party_at, rule_of}
+use Rattle.lock_one.proofs.EachStep.{parties_of, party_of, party_at, rule_of}
 use Rattle.lock_one.proofs.Words.{encoded, encoded_core, encoded_turn, lessened, dropped, low_is, high_is, turn_is, turn_clear, rest_leaves, small_core}
 use Rattle.lock_one.proofs.RunViews.{IsPlaced, RunKept, view_in}
 use Rattle.lock_one.proofs.RunActs.{bare_after}
 use Rattle.lock_one.proofs.RunSteps.{held_in, MadeBy, thread_made, act_makes, act_moves, of_made}
 use Rattle.lock_one.proofs.Bars.{Still, still_decided, fewer, same_tokens, kept_in, read_here}
-use Rattle.lock_one.proofs.Runs.{act_kept, sleeper_in_park}
+use Rattle.lock_one.proofs.Runs.{act_kept, sleeper_in_call}
 use Rattle.lock_one.proofs.RunTurns.{acts_owned, served}
 
 -- what a step of a call under T may do: it gives no token and sets no bar, and T stays or the call is late; or a reader takes the turn;
@@ -44,29 +44,29 @@ use Rattle.lock_one.proofs.RunTurns.{acts_owned, served}
 abbrev SetsNone : ℕ → ℕ → Type 0
 SetsNone word later = has_turn later ≡ true → 2 ^ 34 ≤ core_of later → 2 ^ 34 ≤ core_of word
 
-abbrev Result : Call → Hold → ℕ → ℕ → Hold → Type 0
+abbrev Result : WordCall → Hold → ℕ → ℕ → Hold → Type 0
 Result call own word later h =
     (((tokens h.bag ≤ tokens own.bag) × (h.announced ≡ true → own.announced ≡ true)) × ((has_turn later ≡ true) ⊎ (call.late ≡ true)) × SetsNone word later)
     ⊎ (((h ≡ hold_after own (step_of_want want.Shared)) × (has_turn later ≡ false))
     ⊎ ((own.announced ≡ true) × (h ≡ hold_after own (step_of_want want.Exclusive)) × (has_turn later ≡ true) × (core_of later < 2 ^ 34)))
 
-abbrev Outcome : Call → Hold → Hold → ℕ → ℕ → Progress → Type 0
+abbrev Outcome : WordCall → Hold → Hold → ℕ → ℕ → Progress → Type 0
 Outcome call own before word later p = Result call own word later (hold_at p.0.stage p.0 before)
 
 -- the word after an acquisition
-abbrev left_by : Call → ℕ → ExWant → ℕ
+abbrev left_by : WordCall → ℕ → ExWant → ℕ
 left_by call word w =
     if has_turn word && is_shared w then word_after (core_of word) w
     else with_sleepers (with_turn (word_after (core_of word) w) (has_turn word)) (has_sleepers word || (wakes_one call && has_slept call))
 
 -- a call that goes on keeps what it held, and has no bar that it had not
 
-abbrev Bars : Hold → Call → Progress → Type 0
+abbrev Bars : Hold → WordCall → Progress → Type 0
 Bars before call p = (hold_at p.0.stage p.0 before).announced ≡ true → call.announced ≡ true
 
-bars_decided : (before : Hold) (word : ℕ) (call : Call) → Bars before call (decide word call)
+bars_decided : (before : Hold) (word : ℕ) (call : WordCall) → Bars before call (decide word call)
 bars_decided before word call =
-    let now : Call = record call { loaded = word } in
+    let now : WordCall = record call { loaded = word } in
     of_either (Bars before call) (admits_word call.announced call.readers word call.want) _ _ (λ e. e)
     (of_either (Bars before call) (not call.blocks) _ _ (λ e. absurd (false≢true e))
     (of_either (Bars before call) call.late _ _
@@ -74,7 +74,7 @@ bars_decided before word call =
     (of_either (Bars before call) (wakes_one call && (has_slept call && nat_lt word sleepers)) _ _ (λ e. e) (λ e. absurd (false≢true e))))
     (of_either (Bars before call) (nat_lt call.pauses pauses_before) _ _ (λ e. e) (of_either (Bars before call) (word_marked now == word) _ _ (λ e. e) (λ e. e)))))
 
-module _ (call : Call) (v : ParkView) (before : Hold) (word : ℕ) (set : has_turn word ≡ true) (small : word < 2 ^ 37) (core_small : core_of word < 2 ^ 35)
+module _ (call : WordCall) (v : SleepView) (before : Hold) (word : ℕ) (set : has_turn word ≡ true) (small : word < 2 ^ 37) (core_small : core_of word < 2 ^ 35)
     (no_turn : IsTrue (wakes_one call) → has_turn word ≡ false) (clean : before.announced ≡ false)
     (within : (d : Down) → IsTrue (hold_has v.held (step_of_down d)) → amount d ≤ core_of word) where
   -- the word is the same, and the call keeps what it held
@@ -571,15 +571,15 @@ counts s (a ∷ acts) run keeps =
     omega arith
 
 asleep_in_turn : (s : LockInUse) (k : ℕ) (t : Thread) (u : Underway) (number : ℕ) (class : Sleeper) (brief : Bool) → RunKept s
-    → slice_get s.threads k ≡ Some t → t.underway ≡ Some u → is_asleep t.view.park ≡ true
+    → slice_get s.threads k ≡ Some t → t.underway ≡ Some u → is_asleep t.view.sleep ≡ true
     → u.at.0.want ≡ want.Shared → u.at.0.readers ≢ 1 → u.at.0.sleeps ≡ 4
-    → u.at.1 ≡ action.Park number class brief → 2 ^ 33 ≤ number % sleepers → has_turn number ≡ true
-asleep_in_turn s k t u number class brief run at calls asleep wish many slept parks high =
-    let park = sleeper_in_park s run k t at asleep in
-    let same : u ≡ park.underway = same_Some u park.underway (sym calls ∙ park.calls) in
-    let turned : sets_turn u.at.0 ≡ false = ap (λ (x : Underway). sets_turn x.at.0) same ∙ park.turned in
+    → u.at.1 ≡ action.Sleep number class brief → 2 ^ 33 ≤ number % sleepers → has_turn number ≡ true
+asleep_in_turn s k t u number class brief run at calls asleep wish many slept asks high =
+    let own = sleeper_in_call s run k t at asleep in
+    let same : u ≡ own.underway = same_Some u own.underway (sym calls ∙ own.calls) in
+    let turned : sets_turn u.at.0 ≡ false = ap (λ (x : Underway). sets_turn x.at.0) same ∙ own.turned in
     let number_is : number ≡ u.at.0.loaded
-    = (park.parks number class brief (ap (λ (x : Underway). x.at.1) (sym same) ∙ parks)).0 ∙ ap (λ (x : Underway). x.at.0.loaded) (sym same) in
+    = (own.sleeps_on number class brief (ap (λ (x : Underway). x.at.1) (sym same) ∙ asks)).0 ∙ ap (λ (x : Underway). x.at.0.loaded) (sym same) in
     elim (cases_Bool (has_turn number)) [
       | inl set ↦ set
       | inr clear ↦

@@ -14,16 +14,16 @@ use Rattle.lock_word.specs.Rule.{WordShows}
 use Rattle.lock_word.proofs.Words.{parts_of_word}
 use Rattle.lock_one.specs.declared.action.Action.{Action}
 use Rattle.lock_one.specs.declared.action.Action.TheVariants as action
-use Rattle.lock_one.specs.declared.call.Call.{Call}
-use Rattle.lock_one.specs.declared.park.ParkLimits.{ParkLimits}
-use Rattle.lock_one.specs.declared.park.ParkView.{ParkView}
-use Rattle.lock_one.specs.declared.park.Park.{Park}
-use Rattle.lock_one.specs.declared.park.Park.TheVariants.{Awake, Asleep, Woken}
-use Rattle.lock_one.specs.Rule.{holds_of, is_shared, passes_turn, is_woken, is_asleep, has_duty, KeepsParking}
+use Rattle.lock_one.specs.declared.call.WordCall.{WordCall}
+use Rattle.lock_one.specs.declared.sleep_view.WordLimits.{WordLimits}
+use Rattle.lock_one.specs.declared.sleep_view.SleepView.{SleepView}
+use Rattle.lock_one.specs.declared.sleep_view.SleepState.{SleepState}
+use Rattle.lock_one.specs.declared.sleep_view.SleepState.TheVariants.{Awake, Asleep, Woken}
+use Rattle.lock_one.specs.Rule.{holds_of, is_shared, passes_turn, is_woken, is_asleep, has_duty, KeepsSleepers}
 use Rattle.lock_one.specs.Machine.{is_exclusive, turn, sleepers, core_of, has_turn, has_sleepers, with_turn, with_sleepers, admits_word}
 use Rattle.lock_one.specs.Steps.{made, IsPause, Keeps}
 use Rattle.lock_one.proofs.Kept.{after_win}
-use Rattle.lock_one.proofs.Parking.{parties_of, party_at, party_of, rule_of}
+use Rattle.lock_one.proofs.EachStep.{parties_of, party_at, party_of, rule_of}
 use Rattle.lock_word.proofs.Rules.{shows}
 
 pub not_below : (a b : ℕ) → nat_lt a b ≡ false → b ≤ a
@@ -168,7 +168,7 @@ no_both want.Upgradable x s = false≢true x
 no_both want.Upgrade x s = false≢true x
 no_both want.Announce x s = false≢true x
 
-pub small_core : (limits : ParkLimits) (core : ℕ) (t s : Bool) (views : List ParkView) → IsLimit limits.readers → KeepsParking limits core t s views
+pub small_core : (limits : WordLimits) (core : ℕ) (t s : Bool) (views : List SleepView) → IsLimit limits.readers → KeepsSleepers limits core t s views
     → core < 2 ^ 35
 small_core limits core t s views range kept =
     let parts = parts_of_word limits.readers (all_of (holds_of views)) range.1 kept.legal in
@@ -176,7 +176,7 @@ small_core limits core t s views range kept =
     let coded = kept.coded in
     omega arith
 
-pub keeps_word : (limits : ParkLimits) (core : ℕ) (t s : Bool) (views : List ParkView) → IsLimit limits.readers → KeepsParking limits core t s views
+pub keeps_word : (limits : WordLimits) (core : ℕ) (t s : Bool) (views : List SleepView) → IsLimit limits.readers → KeepsSleepers limits core t s views
     → Keeps limits (encoded core t s) views
 keeps_word limits core t s views range kept =
     let small = small_core limits core t s views range kept in
@@ -184,9 +184,9 @@ keeps_word limits core t s views range kept =
     record {
       small = encoded_small core t s small;
       kept =
-          subst (λ c. KeepsParking limits c (has_turn word) (has_sleepers word) views) (sym (encoded_core core t s small))
-          (subst (λ b. KeepsParking limits core b (has_sleepers word) views) (sym (encoded_turn core t s small))
-          (subst (λ b. KeepsParking limits core t b views) (sym (encoded_bit core t s small)) kept));
+          subst (λ c. KeepsSleepers limits c (has_turn word) (has_sleepers word) views) (sym (encoded_core core t s small))
+          (subst (λ b. KeepsSleepers limits core b (has_sleepers word) views) (sym (encoded_turn core t s small))
+          (subst (λ b. KeepsSleepers limits core t b views) (sym (encoded_bit core t s small)) kept));
     }
 
 -- booleans
@@ -209,14 +209,14 @@ and_false false = refl
 
 -- parties
 
-pub is_awake : (park : Park) → is_asleep park ≡ false → (IsTrue (is_woken park) → ⊥) → park ≡ Awake
+pub is_awake : (state : SleepState) → is_asleep state ≡ false → (IsTrue (is_woken state) → ⊥) → state ≡ Awake
 is_awake Awake a w = refl
 is_awake (Asleep x) a w = absurd (true≢false a)
 is_awake Woken a w = absurd (w refl)
 
 -- in a lock for one, a word that refuses is not free
-pub refused_is_taken : (limits : ParkLimits) (core : ℕ) (t s : Bool) (views : List ParkView) (k : ℕ) (v : ParkView) (wish : ExWant) → IsLimit limits.readers
-    → KeepsParking limits core t s views → slice_get views k ≡ Some v → IsTrue (is_awaited wish) → IsTrue (hold_has v.held (step_of_want wish))
+pub refused_is_taken : (limits : WordLimits) (core : ℕ) (t s : Bool) (views : List SleepView) (k : ℕ) (v : SleepView) (wish : ExWant) → IsLimit limits.readers
+    → KeepsSleepers limits core t s views → slice_get views k ≡ Some v → IsTrue (is_awaited wish) → IsTrue (hold_has v.held (step_of_want wish))
     → (a : Bool) → word_admits a limits.readers core wish ≡ false → core ≢ 0
 refused_is_taken limits core t s views k v wish range kept at awaited has a refuses free =
     let seen = shows limits.readers core (parties_of views) k (party_of v) range (rule_of limits.readers core views kept.coded kept.legal) (party_at views k v at) in
@@ -235,7 +235,7 @@ refused_is_taken limits core t s views k v wish range kept at awaited has a refu
     by want.Announce o h r seen = false≢true o
 
 -- a mutex that refuses a party with a bar is held
-pub refused_is_held : (call : Call) (core : ℕ) → core < 2 ^ 35 → call.announced ≡ true → (call.announced ≡ true → is_exclusive call.want ≡ true)
+pub refused_is_held : (call : WordCall) (core : ℕ) → core < 2 ^ 35 → call.announced ≡ true → (call.announced ≡ true → is_exclusive call.want ≡ true)
     → word_admits call.announced call.readers core call.want ≡ false → core % 2 ^ 34 ≢ 0
 refused_is_held call core small bar writer refuses free =
     by call.want (writer bar) (subst (λ a. word_admits a call.readers core call.want ≡ false) bar refuses)
@@ -272,7 +272,7 @@ pub rest_leaves : (a : Action) (word : ℕ) → IsPause a → made a word ≡ wo
 rest_leaves action.Load word h = absurd h
 rest_leaves (action.Exchange x y) word h = absurd h
 rest_leaves (action.Subtract d) word h = absurd h
-rest_leaves (action.Park n c b) word h = absurd h
+rest_leaves (action.Sleep n c b) word h = absurd h
 rest_leaves action.WakeOne word h = absurd h
 rest_leaves action.WakeAll word h = absurd h
 rest_leaves action.WakeNext word h = absurd h
@@ -291,7 +291,7 @@ marked_refuses a limit core want.Upgrade low o h = false_from_ne_true (word_admi
 marked_refuses a limit core want.Announce low o h = absurd (false≢true o)
 
 -- an announcement leaves what a party holds
-pub has_after_announcing : (v : ParkView) (wish : ExWant) → IsTrue (is_awaited wish) → IsTrue (hold_has v.held (step_of_want wish))
+pub has_after_announcing : (v : SleepView) (wish : ExWant) → IsTrue (is_awaited wish) → IsTrue (hold_has v.held (step_of_want wish))
     → IsTrue (hold_has (after_win v want.Announce).held (step_of_want wish))
 has_after_announcing v want.Shared o h = h
 has_after_announcing v want.Exclusive o h = h
@@ -299,5 +299,5 @@ has_after_announcing v want.Upgradable o h = h
 has_after_announcing v want.Upgrade o h = h
 has_after_announcing v want.Announce o h = h
 
-pub no_duty : (limits : ParkLimits) (v : ParkView) → limits.wakes_one ≡ false → has_duty limits v ≡ false
-no_duty limits v many = ap (λ b. b && is_woken v.park) many
+pub no_duty : (limits : WordLimits) (v : SleepView) → limits.wakes_one ≡ false → has_duty limits v ≡ false
+no_duty limits v many = ap (λ b. b && is_woken v.sleep) many

@@ -6,9 +6,9 @@ use Rattle.lock_modes.specs.Holds.{hold_after}
 use Rattle.lock_word.specs.declared.want.ExWant.{ExWant}
 use Rattle.lock_word.specs.declared.want.ExWant.TheVariants as want
 use Rattle.lock_word.specs.Word.{step_of_want}
-use Rattle.lock_one.specs.declared.action.Action.TheVariants.{Park}
+use Rattle.lock_one.specs.declared.action.Action.TheVariants.{Sleep}
 use Rattle.lock_one.specs.declared.action.Sleeper.{Sleeper}
-use Rattle.lock_one.specs.declared.call.Call.{Call}
+use Rattle.lock_one.specs.declared.call.WordCall.{WordCall}
 use Rattle.lock_one.specs.declared.stage.Stage.TheVariants as stage
 use Rattle.lock_one.specs.Rule.{is_asleep}
 use Rattle.lock_one.specs.Machine.{sleepers, sleeps_after, acquiring, next_of}
@@ -39,18 +39,18 @@ pub record BarredCallsAreNext : Type 0 where
   -- a writer that announces itself, in a mutex one that has slept four times or briefly for its time, sleeps for a word with a bar, its own or another's, or
   -- with T, which no mutex has
   pub sleeps_under_a_bar : (readers : ℕ) (acts : List Act) (k : ℕ) (t : Thread) (u : Underway) (number : ℕ) (class : Sleeper) (brief : Bool) → IsLimit readers
-      → slice_get (in_use readers acts).threads k ≡ Some t → t.underway ≡ Some u → is_asleep t.view.park ≡ true
+      → slice_get (in_use readers acts).threads k ≡ Some t → t.underway ≡ Some u → is_asleep t.view.sleep ≡ true
       → u.at.0.announces ≡ true → u.at.0.want ≡ want.Exclusive → (u.at.0.readers ≡ 1 → u.at.0.sleeps ≡ 4)
-      → u.at.1 ≡ Park number class brief → 2 ^ 34 ≤ number % sleepers
+      → u.at.1 ≡ Sleep number class brief → 2 ^ 34 ≤ number % sleepers
   -- in a mutex, no other sets the bar
   pub patient : (readers : ℕ) (acts : List Act) (k : ℕ) (t : Thread) (u : Underway) → IsLimit readers
       → slice_get (in_use readers acts).threads k ≡ Some t → t.underway ≡ Some u → t.view.held.announced ≡ true
       → u.at.0.readers ≡ 1 → u.at.0.sleeps ≡ 4
   -- and only one that has slept sleeps briefly, for a word without a bar. So calls that come set no bars in turn while another sleeps
   pub brief_after_a_sleep : (readers : ℕ) (acts : List Act) (k : ℕ) (t : Thread) (u : Underway) (number : ℕ) (class : Sleeper) → IsLimit readers
-      → slice_get (in_use readers acts).threads k ≡ Some t → t.underway ≡ Some u → is_asleep t.view.park ≡ true → u.at.0.readers ≡ 1
-      → u.at.1 ≡ Park number class true → (u.at.0.sleeps ≢ 0) × (number % sleepers < 2 ^ 34)
+      → slice_get (in_use readers acts).threads k ≡ Some t → t.underway ≡ Some u → is_asleep t.view.sleep ≡ true → u.at.0.readers ≡ 1
+      → u.at.1 ≡ Sleep number class true → (u.at.0.sleeps ≢ 0) × (number % sleepers < 2 ^ 34)
   -- a call counts its sleeps, up to four. A brief one that lasted its time counts as four
   pub begins : (readers : ℕ) (wish : ExWant) (blocks announces : Bool) → (acquiring readers wish blocks announces).0.sleeps ≡ 0
-  pub counts : (found : ℕ) (call : Call) → call.stage ≡ stage.Sleep → (next_of found call).0.sleeps ≡ sleeps_after found call
-  pub counts_no_other : (found : ℕ) (call : Call) → call.stage ≢ stage.Sleep → (next_of found call).0.sleeps ≡ call.sleeps
+  pub counts : (found : ℕ) (call : WordCall) → call.stage ≡ stage.Sleep → (next_of found call).0.sleeps ≡ sleeps_after found call
+  pub counts_no_other : (found : ℕ) (call : WordCall) → call.stage ≢ stage.Sleep → (next_of found call).0.sleeps ≡ call.sleeps

@@ -7,19 +7,19 @@ use Rattle.lock_word.specs.declared.down.Down.TheVariants as down
 use Rattle.lock_word.specs.Word.{word_admits, word_after, amount}
 use Rattle.lock_word.specs.Unblocking.{word_unblocks}
 use Rattle.lock_one.specs.declared.action.Action.{Action}
-use Rattle.lock_one.specs.declared.action.Action.TheVariants.{Load, Exchange, Subtract, Park, WakeOne, WakeAll, WakeNext, WakeTurn, Spin, Yield, End}
+use Rattle.lock_one.specs.declared.action.Action.TheVariants.{Load, Exchange, Subtract, Sleep, WakeOne, WakeAll, WakeNext, WakeTurn, Spin, Yield, End}
 use Rattle.lock_one.specs.declared.action.Sleeper.{Sleeper}
 use Rattle.lock_one.specs.declared.action.Sleeper.TheVariants as sleeper
-use Rattle.lock_one.specs.declared.call.Call.{Call}
+use Rattle.lock_one.specs.declared.call.WordCall.{WordCall}
 use Rattle.lock_one.specs.declared.stage.Stage.{Stage}
 use Rattle.lock_one.specs.declared.stage.Stage.TheVariants as stage
-use Rattle.lock_one.specs.declared.park.Debt.{Debt}
-use Rattle.lock_one.specs.declared.park.Debt.TheVariants as debt
+use Rattle.lock_one.specs.declared.sleep_view.Debt.{Debt}
+use Rattle.lock_one.specs.declared.sleep_view.Debt.TheVariants as debt
 use Rattle.lock_one.specs.Rule.{is_upgrade, is_shared, passes_turn}
 
 -- a call, and its next action
 abbrev pub Progress : Type 0
-Progress = Call × Action
+Progress = WordCall × Action
 
 -- T, the turn of readers; S, the bit of sleepers; and the word without both
 abbrev pub turn : ℕ
@@ -48,7 +48,7 @@ abbrev pub admits_word : Bool → ℕ → ℕ → ExWant → Bool
 admits_word announced readers word want =
     word_admits announced readers (core_of word) want && (not (has_turn word) || passes_turn announced want)
 
-abbrev pub begun : ℕ → Stage → ExWant → Down → Bool → Bool → Call
+abbrev pub begun : ℕ → Stage → ExWant → Down → Bool → Bool → WordCall
 begun readers at wish release blocks announces = record {
   readers = readers;
   stage = at;
@@ -76,26 +76,26 @@ is_exclusive want.Announce = false
 abbrev pub acquiring : ℕ → ExWant → Bool → Bool → Progress
 acquiring readers wish blocks announces = (begun readers stage.Look wish down.Shared blocks announces, Load)
 
-abbrev pub goes_to : Call → Stage → Action → Progress
+abbrev pub goes_to : WordCall → Stage → Action → Progress
 goes_to call at action = (record call { stage = at }, action)
 
-abbrev pub ended : Bool → Call → Progress
+abbrev pub ended : Bool → WordCall → Progress
 ended answer call = goes_to call stage.Ended (End answer)
 
-abbrev pub acquired : Call → Progress
+abbrev pub acquired : WordCall → Progress
 acquired call = goes_to call stage.Acquired (End true)
 
-abbrev pub refused : Call → Progress
+abbrev pub refused : WordCall → Progress
 refused call = goes_to call stage.Refused (End false)
 
-abbrev pub wakes_one : Call → Bool
+abbrev pub wakes_one : WordCall → Bool
 wakes_one call = call.readers == 1
 
 -- a call of a mutex that slept so often sets the bar, and such a reader T
 abbrev pub enough_sleeps : ℕ
 enough_sleeps = 4
 
-abbrev pub has_slept : Call → Bool
+abbrev pub has_slept : WordCall → Bool
 has_slept call = not (call.sleeps == 0)
 
 -- the sleeps of a call after one more. It counts no further than it has to
@@ -105,16 +105,16 @@ one_more_sleep sleeps = if nat_lt sleeps enough_sleeps then sleeps + 1 else slee
 -- a brief sleep ends after half a millisecond, and then the call counts as one that slept enough. A reader's sleep is brief, for a word
 -- without T. In a mutex so is that of a call that was woken, for a word without a bar. Its first sleep is not, so calls that come
 -- cannot hand the bar to one another while a third sleeps
-abbrev pub is_brief : Call → Bool
+abbrev pub is_brief : WordCall → Bool
 is_brief call =
     nat_lt call.sleeps enough_sleeps
     && (if wakes_one call then has_slept call && (call.announces && (is_exclusive call.want && nat_lt (call.loaded % sleepers) (2 ^ 34)))
     else is_shared call.want && not (has_turn call.loaded))
 
-abbrev pub sleeps_after : ℕ → Call → ℕ
+abbrev pub sleeps_after : ℕ → WordCall → ℕ
 sleeps_after found call = if (found == 2) && is_brief call then enough_sleeps else one_more_sleep call.sleeps
 
-abbrev pub is_due : Call → Bool
+abbrev pub is_due : WordCall → Bool
 is_due call = not (wakes_one call) || (call.sleeps == enough_sleeps)
 
 abbrev pub pauses_before : ℕ
@@ -123,48 +123,48 @@ pauses_before = 6
 abbrev pub class_of : Bool → ExWant → Sleeper
 class_of announced want = if announced || is_upgrade want then sleeper.Next else if is_shared want then sleeper.Reader else sleeper.Other
 
--- a park compares the low half of a stored word, which has 27 bits of readers. A call on a lock for more of them yields
-abbrev pub sleep_of : Call → Action
-sleep_of call = if nat_lt call.readers (2 ^ 27) then Park call.loaded (class_of call.announced call.want) (is_brief call) else Yield
+-- a sleep compares the low half of a stored word, which has 27 bits of readers. A call on a lock for more of them yields
+abbrev pub sleep_of : WordCall → Action
+sleep_of call = if nat_lt call.readers (2 ^ 27) then Sleep call.loaded (class_of call.announced call.want) (is_brief call) else Yield
 
-abbrev pub sleep : Call → Progress
+abbrev pub sleep : WordCall → Progress
 sleep call = goes_to call stage.Sleep (sleep_of call)
 
 -- a writer that is due sets the bar, if neither a bar nor T is set
-abbrev pub sets_bar : Call → Bool
+abbrev pub sets_bar : WordCall → Bool
 sets_bar call =
     call.announces && (is_exclusive call.want && (not call.announced && (is_due call && nat_lt (call.loaded % sleepers) (2 ^ 34))))
 
 -- a reader that slept enough sets T, if a writer holds the lock or has set the bar
-abbrev pub sets_turn : Call → Bool
+abbrev pub sets_turn : WordCall → Bool
 sets_turn call =
     is_shared call.want && (not (wakes_one call)
     && ((call.sleeps == enough_sleeps) && (nat_lt (call.loaded % sleepers) turn && not (nat_lt (call.loaded % sleepers) (2 ^ 33)))))
 
-abbrev pub word_marked : Call → ℕ
+abbrev pub word_marked : WordCall → ℕ
 word_marked call =
     with_turn (core_of call.loaded + (if sets_bar call then 2 ^ 34 else 0)) (has_turn call.loaded || sets_turn call) + sleepers
 
-abbrev pub mark_or_sleep : Call → Progress
+abbrev pub mark_or_sleep : WordCall → Progress
 mark_or_sleep call =
     if word_marked call == call.loaded then sleep call
     else goes_to (record call { left = word_marked call }) stage.Mark (Exchange call.loaded (word_marked call))
 
-abbrev pub marked : Call → Progress
+abbrev pub marked : WordCall → Progress
 marked call = sleep (record call { announced = call.announced || sets_bar call; turned = call.turned || sets_turn call; loaded = call.left })
 
 -- whether a late call has set T, and T is set
-abbrev pub drops_turn : Call → Bool
+abbrev pub drops_turn : WordCall → Bool
 drops_turn call = call.turned && has_turn call.loaded
 
 -- the word after a withdrawal of the bar. In a mutex it has S, so no wake-up is owed. That of T leaves S, since a bar may be set
-abbrev pub word_unbarred : Call → ℕ
+abbrev pub word_unbarred : WordCall → ℕ
 word_unbarred call = with_sleepers (with_turn (core_of call.loaded - 2 ^ 34) (has_turn call.loaded)) (wakes_one call)
 
-abbrev pub word_withdrawn : Call → ℕ
+abbrev pub word_withdrawn : WordCall → ℕ
 word_withdrawn call = if call.announced then word_unbarred call else call.loaded - turn
 
-abbrev pub time_out : Call → Progress
+abbrev pub time_out : WordCall → Progress
 time_out call =
     if call.announced || drops_turn call
     then goes_to (record call { left = word_withdrawn call }) stage.Withdraw (Exchange call.loaded (word_withdrawn call))
@@ -172,14 +172,14 @@ time_out call =
     then goes_to (record call { left = call.loaded + sleepers }) stage.Leave (Exchange call.loaded (call.loaded + sleepers))
     else refused call
 
-abbrev pub withdrawn : Call → Progress
+abbrev pub withdrawn : WordCall → Progress
 withdrawn call =
     if has_sleepers call.loaded && not (wakes_one call)
     then goes_to (record call { announced = false; turned = false }) stage.WakeRefused WakeAll
     else refused (record call { announced = false; turned = false })
 
 -- the loaded word refuses
-abbrev pub wait : Call → Progress
+abbrev pub wait : WordCall → Progress
 wait call =
     if not call.blocks then refused call
     else if call.late then time_out call
@@ -187,21 +187,21 @@ wait call =
     else mark_or_sleep call
 
 -- a reader that acquires takes the turn: it clears T and S, and wakes all
-abbrev pub takes_turn : Call → ℕ → Bool
+abbrev pub takes_turn : WordCall → ℕ → Bool
 takes_turn call word = has_turn word && is_shared call.want
 
 -- the word after another acquisition. It keeps T and S. A call of a mutex that has slept sets S
-abbrev pub after_other : Call → ℕ → ℕ
+abbrev pub after_other : WordCall → ℕ → ℕ
 after_other call word =
     with_sleepers (with_turn (word_after (core_of word) call.want) (has_turn word)) (has_sleepers word || (wakes_one call && has_slept call))
 
-abbrev pub after_try : Call → ℕ → ℕ
+abbrev pub after_try : WordCall → ℕ → ℕ
 after_try call word = if takes_turn call word then word_after (core_of word) call.want else after_other call word
 
-abbrev pub won : Call → Progress
+abbrev pub won : WordCall → Progress
 won call = if takes_turn call call.loaded && has_sleepers call.loaded then goes_to call stage.WakeAcquired WakeAll else acquired call
 
-abbrev pub decide : ℕ → Call → Progress
+abbrev pub decide : ℕ → WordCall → Progress
 decide word call =
     if admits_word call.announced call.readers word call.want
     then goes_to (record call { loaded = word; left = after_try call word }) stage.Try (Exchange word (after_try call word))
@@ -230,7 +230,7 @@ abbrev pub word_released : ℕ → ℕ → Down → ℕ
 word_released readers word release =
     with_sleepers (with_turn (core_of word - amount release) (has_turn word)) (release_of readers word release).0
 
-abbrev pub release_on : ℕ → Call → Progress
+abbrev pub release_on : ℕ → WordCall → Progress
 release_on word call =
     goes_to (record call { loaded = word; left = word_released call.readers word call.down }) stage.Release
     (Exchange word (word_released call.readers word call.down))
@@ -254,14 +254,14 @@ abbrev pub removes_reader : ℕ → Down → Bool
 removes_reader readers down.Shared = not (readers == 1)
 removes_reader readers other = false
 
-abbrev pub subtract : Call → Progress
+abbrev pub subtract : WordCall → Progress
 subtract call = goes_to call stage.Subtract (Subtract call.down)
 
-abbrev pub look_to_remove : ℕ → Call → Progress
+abbrev pub look_to_remove : ℕ → WordCall → Progress
 look_to_remove word call =
     if has_sleepers word then release_on word call else subtract call
 
-abbrev pub release_again : ℕ → Call → Progress
+abbrev pub release_again : ℕ → WordCall → Progress
 release_again word call =
     if nat_lt call.pauses exchanges_before then release_on word (record call { pauses = call.pauses + 1 }) else subtract call
 
@@ -270,14 +270,14 @@ taking readers release =
     if removes_reader readers release then goes_to (begun readers stage.LookToRemove want.Shared release false false) stage.LookToRemove Load
     else release_on (alone release) (begun readers stage.Release want.Shared release false false)
 
-abbrev pub wakes : Debt → Call → Progress
+abbrev pub wakes : Debt → WordCall → Progress
 wakes debt.Nothing call = ended true call
 wakes debt.One call = goes_to call stage.Wake WakeOne
 wakes debt.All call = goes_to call stage.Wake WakeAll
 wakes debt.Next call = goes_to call stage.Wake WakeNext
 wakes debt.Turn call = goes_to call stage.Wake WakeTurn
 
-abbrev pub next_at : Stage → ℕ → Call → Progress
+abbrev pub next_at : Stage → ℕ → WordCall → Progress
 next_at stage.Look found call = decide found call
 next_at stage.Try found call = if found == call.loaded then won call else decide found call
 next_at stage.Pause found call = goes_to call stage.Look Load
@@ -295,5 +295,5 @@ next_at stage.Acquired found call = ended false call
 next_at stage.Refused found call = ended false call
 next_at stage.Ended found call = ended false call
 
-abbrev pub next_of : ℕ → Call → Progress
+abbrev pub next_of : ℕ → WordCall → Progress
 next_of found call = next_at call.stage found call

@@ -14,13 +14,13 @@ use Rattle.lock_one.specs.declared.action.Action.TheVariants as action
 use Rattle.lock_one.specs.declared.action.Sleeper.{Sleeper}
 use Rattle.lock_one.specs.declared.stage.Stage.{Stage}
 use Rattle.lock_one.specs.declared.stage.Stage.TheVariants as stage
-use Rattle.lock_one.specs.declared.park.ParkLimits.{ParkLimits}
-use Rattle.lock_one.specs.declared.park.ParkView.{ParkView}
-use Rattle.lock_one.specs.declared.park.Park.{Park}
-use Rattle.lock_one.specs.declared.park.Park.TheVariants.{Awake, Asleep, Woken}
-use Rattle.lock_one.specs.declared.park.Debt.{Debt}
-use Rattle.lock_one.specs.declared.park.Debt.TheVariants as debt
-use Rattle.lock_one.specs.Rule.{holds_of, is_woken, is_asleep, is_shared, IsRefused, IsEntitled, IsServed, with_park, with_debt, wake_all, wake_next, wake_turn, new_party}
+use Rattle.lock_one.specs.declared.sleep_view.WordLimits.{WordLimits}
+use Rattle.lock_one.specs.declared.sleep_view.SleepView.{SleepView}
+use Rattle.lock_one.specs.declared.sleep_view.SleepState.{SleepState}
+use Rattle.lock_one.specs.declared.sleep_view.SleepState.TheVariants.{Awake, Asleep, Woken}
+use Rattle.lock_one.specs.declared.sleep_view.Debt.{Debt}
+use Rattle.lock_one.specs.declared.sleep_view.Debt.TheVariants as debt
+use Rattle.lock_one.specs.Rule.{holds_of, is_woken, is_asleep, is_shared, IsRefused, IsEntitled, IsServed, with_sleep, with_debt, wake_all, wake_next, wake_turn, new_party}
 use Rattle.lock_one.specs.Machine.{Progress, is_exclusive, is_due, core_of, has_turn, has_sleepers, sleepers, class_of, is_brief, sets_turn, acquiring, taking, next_at, next_of}
 use Rattle.lock_one.specs.Steps.{made, touches, ends, hold_at}
 
@@ -31,7 +31,7 @@ pub record Underway : Type 0 where
 
 -- a thread: what it holds, whether it sleeps, and what it owes; and its call
 pub record Thread : Type 0 where
-  pub view : ParkView
+  pub view : SleepView
   pub underway : Option Underway
 
 pub record LockInUse : Type 0 where
@@ -39,10 +39,10 @@ pub record LockInUse : Type 0 where
   pub word : ℕ
   pub threads : List Thread
 
-abbrev pub views_of : List Thread → List ParkView
+abbrev pub views_of : List Thread → List SleepView
 views_of threads = map (λ (t : Thread). t.view) threads
 
-abbrev pub limits_in : ℕ → ParkLimits
+abbrev pub limits_in : ℕ → WordLimits
 limits_in readers = record { readers = readers; wakes_one = readers == 1 }
 
 abbrev pub new_thread : Thread
@@ -59,7 +59,7 @@ pub data Act : Type 0 where
   acquires : ℕ → ExWant → Bool → Bool → Act
   -- the thread begins to release or downgrade
   releases : ℕ → Down → Act
-  -- the thread makes the next action of its call. The second number answers an action that reads no word: at a park, 0 is a sleep. A
+  -- the thread makes the next action of its call. The second number answers an action that reads no word: at a sleep, 0 falls asleep. A
   -- wake-up of one wakes the thread with the third number, if it sleeps
   steps : ℕ → ℕ → ℕ → Act
 
@@ -90,15 +90,15 @@ is_over stage.Ended = true
 is_over waiting = false
 
 -- a party whose call is over is awake for good
-abbrev pub park_at : Stage → Park → Park
-park_at at park = if is_over at then Awake else park
+abbrev pub sleep_at : Stage → SleepState → SleepState
+sleep_at at state = if is_over at then Awake else state
 
 -- a call owes the wake-up that is its next action
 abbrev pub debt_at : Action → Debt
 debt_at action.Load = debt.Nothing
 debt_at (action.Exchange a b) = debt.Nothing
 debt_at (action.Subtract d) = debt.Nothing
-debt_at (action.Park n c b) = debt.Nothing
+debt_at (action.Sleep n c b) = debt.Nothing
 debt_at action.WakeOne = debt.One
 debt_at action.WakeAll = debt.All
 debt_at action.WakeNext = debt.Next
@@ -111,11 +111,11 @@ debt_at (action.End b) = debt.Nothing
 abbrev pub turned_at : Stage → Bool → Bool
 turned_at at turned = not (is_over at) && turned
 
-abbrev pub view_after : Progress → Park → Hold → ParkView
-view_after next park before =
+abbrev pub view_after : Progress → SleepState → Hold → SleepView
+view_after next state before =
     record {
       held = hold_at next.0.stage next.0 before;
-      park = park_at next.0.stage park;
+      sleep = sleep_at next.0.stage state;
       debt = debt_at next.1;
     }
 
@@ -123,13 +123,13 @@ view_after next park before =
 abbrev pub goes_on : Progress → Hold → Option Underway
 goes_on next before = if ends next.1 then None else Some record { at = next; before = before }
 
-abbrev pub thread_after : Progress → Park → Hold → Thread
-thread_after next park before = record { view = view_after next park before; underway = goes_on next before }
+abbrev pub thread_after : Progress → SleepState → Hold → Thread
+thread_after next state before = record { view = view_after next state before; underway = goes_on next before }
 
 abbrev pub with_thread : LockInUse → ℕ → Thread → LockInUse
 with_thread s k t = record s { threads = slice_set s.threads k t }
 
-abbrev pub view_to : (ParkView → ParkView) → Thread → Thread
+abbrev pub view_to : (SleepView → SleepView) → Thread → Thread
 view_to f t = record t { view = f t.view }
 
 -- the answer to an action
@@ -142,24 +142,24 @@ steps_by s k given t u =
     record {
       readers = s.readers;
       word = made u.at.1 s.word;
-      threads = slice_set s.threads k (thread_after (next_of (answer u.at.1 s.word given) u.at.0) t.view.park u.before);
+      threads = slice_set s.threads k (thread_after (next_of (answer u.at.1 s.word given) u.at.0) t.view.sleep u.before);
     }
 
--- whether a park finds its number in the word. A yield does not sleep
+-- whether a sleep finds its number in the word. A yield does not sleep
 abbrev pub finds : Action → ℕ → Bool
-finds (action.Park n class brief) word = word == n
+finds (action.Sleep n class brief) word = word == n
 finds other word = false
 
--- a park: the thread falls asleep if the answer is 0 and the word is the number. Otherwise its sleep ends, and it may be late
-abbrev pub parks_by : LockInUse → ℕ → ℕ → Thread → Underway → LockInUse
-parks_by s k given t u =
-    if (given == 0) && (finds u.at.1 s.word && not (is_asleep t.view.park))
-    then with_thread s k (record t { view = with_park t.view (Asleep u.at.0.want) })
-    else with_thread s k record { view = with_park t.view Woken; underway = goes_on (next_at stage.Sleep given u.at.0) u.before }
+-- a sleep: the thread falls asleep if the answer is 0 and the word is the number. Otherwise its sleep ends, and it may be late
+abbrev pub sleeps_by : LockInUse → ℕ → ℕ → Thread → Underway → LockInUse
+sleeps_by s k given t u =
+    if (given == 0) && (finds u.at.1 s.word && not (is_asleep t.view.sleep))
+    then with_thread s k (record t { view = with_sleep t.view (Asleep u.at.0.want) })
+    else with_thread s k record { view = with_sleep t.view Woken; underway = goes_on (next_at stage.Sleep given u.at.0) u.before }
 
 abbrev pub any_asleep : List Thread → Bool
 any_asleep [] = false
-any_asleep (t ∷ ts) = is_asleep t.view.park || any_asleep ts
+any_asleep (t ∷ ts) = is_asleep t.view.sleep || any_asleep ts
 
 -- the thread has made its wake-up
 abbrev pub paid : LockInUse → ℕ → Thread → Underway → LockInUse
@@ -168,7 +168,7 @@ paid s k t u = with_thread s k record { view = with_debt t.view debt.Nothing; un
 abbrev pub wake_at : LockInUse → ℕ → ℕ → Thread → Underway → Option Thread → LockInUse
 wake_at s k j t u None = if any_asleep s.threads then s else paid s k t u
 wake_at s k j t u (Some w) =
-    if is_asleep w.view.park then paid (with_thread s j (view_to (λ v. with_park v Woken) w)) k t u
+    if is_asleep w.view.sleep then paid (with_thread s j (view_to (λ v. with_sleep v Woken) w)) k t u
     else if any_asleep s.threads then s else paid s k t u
 
 abbrev pub wakes_by : LockInUse → ℕ → ℕ → Thread → Underway → Action → LockInUse
@@ -178,7 +178,7 @@ wakes_by s k j t u action.WakeTurn = paid (record s { threads = map (view_to wak
 wakes_by s k j t u other = wake_at s k j t u (slice_get s.threads j)
 
 abbrev pub step_at : Stage → LockInUse → ℕ → ℕ → ℕ → Thread → Underway → LockInUse
-step_at stage.Sleep s k given j t u = parks_by s k given t u
+step_at stage.Sleep s k given j t u = sleeps_by s k given t u
 step_at stage.Wake s k given j t u = wakes_by s k j t u u.at.1
 step_at stage.WakeRefused s k given j t u = wakes_by s k j t u u.at.1
 step_at stage.WakeAcquired s k given j t u = wakes_by s k j t u u.at.1
@@ -211,16 +211,16 @@ abbrev pub after_acts : LockInUse → List Act → LockInUse
 after_acts s [] = s
 after_acts s (a ∷ acts) = after_acts (after_act s a) acts
 
-pub record IsInPark (t : Thread) : Type 0 where
+pub record SleepsInCall (t : Thread) : Type 0 where
   pub underway : Underway
   pub calls : t.underway ≡ Some underway
   pub sleeps : underway.at.0.stage ≡ stage.Sleep
-  pub wants : t.view.park ≡ Asleep underway.at.0.want
+  pub wants : t.view.sleep ≡ Asleep underway.at.0.want
   pub marked : has_sleepers underway.at.0.loaded ≡ true
-  -- it parks for the word that it loaded, as what it is to a wake-up
-  pub parks : (number : ℕ) (class : Sleeper) (brief : Bool) → underway.at.1 ≡ action.Park number class brief
+  -- it sleeps on the word that it loaded, as what it is to a wake-up
+  pub sleeps_on : (number : ℕ) (class : Sleeper) (brief : Bool) → underway.at.1 ≡ action.Sleep number class brief
       → (number ≡ underway.at.0.loaded) × (class ≡ class_of t.view.held.announced underway.at.0.want) × (brief ≡ is_brief underway.at.0)
-  -- and a writer that announces itself and is due parks for a word with a bar, its own or another's, or with T
+  -- and a writer that announces itself and is due sleeps on a word with a bar, its own or another's, or with T
   pub barred : underway.at.0.announces ≡ true → is_exclusive underway.at.0.want ≡ true → is_due underway.at.0 ≡ true → 2 ^ 34 ≤ underway.at.0.loaded % sleepers
   -- a reader that would set T has set it
   pub turned : sets_turn underway.at.0 ≡ false
@@ -250,19 +250,19 @@ pub record ThreadsAreServed (s : LockInUse) : Type 0 where
   pub patient : (k : ℕ) (t : Thread) (u : Underway) → slice_get s.threads k ≡ Some t → t.underway ≡ Some u → t.view.held.announced ≡ true
       → is_due u.at.0 ≡ true
   -- a thread that sleeps wants what it may acquire
-  pub entitled : (k : ℕ) (v : ParkView) (want : ExWant) → slice_get (views_of s.threads) k ≡ Some v → v.park ≡ Asleep want → IsEntitled v want
+  pub entitled : (k : ℕ) (v : SleepView) (want : ExWant) → slice_get (views_of s.threads) k ≡ Some v → v.sleep ≡ Asleep want → IsEntitled v want
   -- of each sleeper: S is set, and the word or T refuses it; or a thread owes it a wake-up, or (in a mutex) was woken in its place
-  pub none_forgotten : (k : ℕ) (v : ParkView) (want : ExWant) → slice_get (views_of s.threads) k ≡ Some v → v.park ≡ Asleep want
+  pub none_forgotten : (k : ℕ) (v : SleepView) (want : ExWant) → slice_get (views_of s.threads) k ≡ Some v → v.sleep ≡ Asleep want
       → IsServed (limits_in s.readers) (core_of s.word) (has_turn s.word) (has_sleepers s.word) (views_of s.threads) v want
   -- so where no thread owes a wake-up or is woken, S is set, and the word or T refuses each sleeper
-  pub at_rest : (k : ℕ) (v : ParkView) (want : ExWant) → slice_get (views_of s.threads) k ≡ Some v → v.park ≡ Asleep want
-      → ((j : ℕ) (w : ParkView) → slice_get (views_of s.threads) j ≡ Some w → (w.debt ≡ debt.Nothing) × (is_woken w.park ≡ false))
+  pub at_rest : (k : ℕ) (v : SleepView) (want : ExWant) → slice_get (views_of s.threads) k ≡ Some v → v.sleep ≡ Asleep want
+      → ((j : ℕ) (w : SleepView) → slice_get (views_of s.threads) j ≡ Some w → (w.debt ≡ debt.Nothing) × (is_woken w.sleep ≡ false))
       → (has_sleepers s.word ≡ true) × IsRefused (limits_in s.readers) (core_of s.word) (has_turn s.word) v want
   -- where T is set, a thread is in a call that has set it. T is no bit of a mutex
   pub turn_owned : has_turn s.word ≡ true → SomeoneTurns s.threads
   pub no_turn : s.readers ≡ 1 → has_turn s.word ≡ false
-  -- a thread that sleeps is in its park, for what its call wants, and the number that it parks for has S
-  pub parked : (k : ℕ) (t : Thread) → slice_get s.threads k ≡ Some t → is_asleep t.view.park ≡ true → IsInPark t
+  -- a thread that sleeps is in a call, for what the call wants, and the number that it sleeps on has S
+  pub sleeps_in_call : (k : ℕ) (t : Thread) → slice_get s.threads k ≡ Some t → is_asleep t.view.sleep ≡ true → SleepsInCall t
   -- a thread in no call has no bar: a call that ended left none
   pub no_bar_left : (k : ℕ) (t : Thread) → slice_get s.threads k ≡ Some t → t.underway ≡ None → t.view.held.announced ≡ false
   -- a thread owes the wake-up that is the next action of its call

@@ -5,7 +5,7 @@ use Rattle.lock_modes.specs.Modes.{tokens}
 use Rattle.lock_modes.specs.Holds.{hold_after}
 use Rattle.lock_word.specs.declared.want.ExWant.TheVariants as want
 use Rattle.lock_word.specs.Word.{step_of_want}
-use Rattle.lock_one.specs.declared.action.Action.TheVariants.{Park}
+use Rattle.lock_one.specs.declared.action.Action.TheVariants.{Sleep}
 use Rattle.lock_one.specs.declared.action.Sleeper.{Sleeper}
 use Rattle.lock_one.specs.Rule.{is_asleep}
 use Rattle.lock_one.specs.Machine.{has_turn, sleepers}
@@ -71,6 +71,6 @@ pub record ReadersGetATurn : Type 0 where
       → SomeoneTurns (in_use readers acts).threads
   -- a reader that has slept four times, or briefly for its time, sleeps under a writer or a bar for a word with T alone
   pub sleeps_in_turn : (readers : ℕ) (acts : List Act) (k : ℕ) (t : Thread) (u : Underway) (number : ℕ) (class : Sleeper) (brief : Bool) → IsLimit readers
-      → slice_get (in_use readers acts).threads k ≡ Some t → t.underway ≡ Some u → is_asleep t.view.park ≡ true
+      → slice_get (in_use readers acts).threads k ≡ Some t → t.underway ≡ Some u → is_asleep t.view.sleep ≡ true
       → u.at.0.want ≡ want.Shared → u.at.0.readers ≢ 1 → u.at.0.sleeps ≡ 4
-      → u.at.1 ≡ Park number class brief → 2 ^ 33 ≤ number % sleepers → has_turn number ≡ true
+      → u.at.1 ≡ Sleep number class brief → 2 ^ 33 ≤ number % sleepers → has_turn number ≡ true

@@ -25,7 +25,7 @@ pub enum Action {
     /// Sleeps while the word is this number, as a sleeper of this class. The flag says that the sleep is brief. A sleep may
     /// end early. The answer is 1 if the deadline of the call has passed, 2 if the time of a brief sleep is over, and 0
     /// otherwise.
-    Park(u64, Sleeper, bool),
+    Sleep(u64, Sleeper, bool),
     /// Wakes one thread that sleeps on the word.
     WakeOne,
     /// Wakes all threads that sleep on the word.

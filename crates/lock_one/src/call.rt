@@ -4,9 +4,9 @@ ghost use Rattle.lock_one.specs.Machine.{release_of, alone, class_of, has_turn, 
 ghost use Rattle.lock_one.specs.Rule.{is_shared, passes_turn};
 
 use crate::action::{Action, Sleeper};
-use crate::park::Debt;
+use crate::sleep_view::Debt;
 use crate::stage::Stage;
-use lock_word::{Down, ExWant, Occupancy, has_bar, unblocks};
+use lock_word::{BAR, Down, EXCLUSIVE, ExWant, Occupancy, UPGRADABLE, has_bar, unblocks};
 
 /// The turn of readers.
 pub const TURN: u64 = 34_359_738_368;
@@ -14,16 +14,7 @@ pub const TURN: u64 = 34_359_738_368;
 /// The bit of sleepers.
 pub const SLEEPERS: u64 = 68_719_476_736;
 
-/// The bit of an upgradable token.
-const UPGRADABLE: u64 = 4_294_967_296;
-
-/// The bit of an exclusive token.
-const EXCLUSIVE: u64 = 8_589_934_592;
-
-/// The bar.
-const BAR: u64 = 17_179_869_184;
-
-/// The readers' limit from which on a call yields in place of a sleep. A park compares the low half of a stored word, which
+/// The readers' limit from which on a call yields in place of a sleep. A sleep compares the low half of a stored word, which
 /// has 27 bits of readers.
 const YIELDS_FROM: u64 = 134_217_728;
 
@@ -45,7 +36,7 @@ const LONGEST: u32 = 9;
 
 /// A call between two of its steps.
 #[derive(Clone, Copy, PartialEq, Eq, Debug)]
-pub struct Call {
+pub struct WordCall {
     /// The readers' limit of the lock. A lock for one reader is a mutex.
     pub readers: u64,
     /// The step whose answer the call awaits.
@@ -74,14 +65,14 @@ pub struct Call {
     pub left: u64,
 }
 
-impl Call {
+impl WordCall {
     ghost use Rattle.lock_one.specs.Machine.{acquiring, has_sleepers, has_turn, with_sleepers, with_turn, word_withdrawn, taking, next_of, goes_to, ended, acquired, refused, wakes_one, has_slept, is_due, is_brief, class_of, decide, drops_turn, mark_or_sleep, wait, sleep, sleeps_after, takes_turn, time_out, release_on, subtract, release_again, look_to_remove, marked, sets_bar, sets_turn, wakes, withdrawn, won};
 
     /// Begins a call that acquires or upgrades. Returns the call and its first action.
-    pub fn acquire(readers: u64, want: ExWant, blocks: bool, announces: bool) -> (Call, Action)
+    pub fn acquire(readers: u64, want: ExWant, blocks: bool, announces: bool) -> (WordCall, Action)
         ensures { result ≡ acquiring readers want blocks announces }
     {
-        let call = Call {
+        let call = WordCall {
             readers,
             stage: Stage::Look,
             want,
@@ -329,7 +320,7 @@ impl Call {
     {
         let class = class_of(self.announced, self.want);
         let action = if self.readers < YIELDS_FROM {
-            Action::Park(self.loaded, class, self.is_brief())
+            Action::Sleep(self.loaded, class, self.is_brief())
         } else {
             Action::Yield
         };
@@ -389,10 +380,10 @@ impl Call {
     }
 
     /// Begins a call that releases or downgrades. Returns the call and its first action.
-    pub fn release(readers: u64, down: Down) -> (Call, Action)
+    pub fn release(readers: u64, down: Down) -> (WordCall, Action)
         ensures { result ≡ taking readers down }
     {
-        let (mut call, _) = Call::acquire(readers, ExWant::Shared, false, false);
+        let (mut call, _) = WordCall::acquire(readers, ExWant::Shared, false, false);
         call.down = down;
         let action = if removes_reader(readers, down) {
             call.to(Stage::LookToRemove, Action::Load)

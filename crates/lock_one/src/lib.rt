@@ -9,16 +9,16 @@
 mod action;
 mod call;
 mod laws;
-mod park;
+mod sleep_view;
 mod stage;
 mod storing;
 
 pub use action::{Action, Sleeper};
-pub use call::{Call, SLEEPERS, TURN, alone_word, removes_reader};
+pub use call::{SLEEPERS, TURN, WordCall, alone_word, removes_reader};
 pub use laws::{
     answers_match_holds, barred_calls_are_next, every_run_is_served, first_steps,
     readers_get_a_turn, refusals_have_causes, releases_touch_no_more, storing_keeps_words,
 };
-pub use park::{Debt, Park, ParkLimits, ParkView};
+pub use sleep_view::{Debt, SleepState, SleepView, WordLimits};
 pub use stage::Stage;
 pub use storing::{from_stored, stored_amount, to_stored};

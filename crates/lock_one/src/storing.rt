@@ -9,7 +9,7 @@ const FLAGS: u64 = 4_294_967_296;
 
 /// Returns the number that a lock stores for the word: the flags are its bits 0 to 4, and the readers follow.
 ///
-/// A park compares the low 32 bits, so these hold the flags and 27 bits of readers.
+/// A sleep compares the low 32 bits, so these hold the flags and 27 bits of readers.
 pub fn to_stored(word: u64) -> u64
     ensures { result ≡ stored_of word }
 {

@@ -10,7 +10,7 @@ use Rattle.lock_word.specs.declared.want.ExWant.TheVariants as want
 use Rattle.lock_word.specs.Unblocking.{is_awaited}
 use Rattle.lock_word.specs.Word.{step_of_want, want_of_mode}
 use Rattle.lock_one.specs.declared.action.Action.TheVariants.{Load, End}
-use Rattle.lock_one.specs.declared.call.Call.{Call}
+use Rattle.lock_one.specs.declared.call.WordCall.{WordCall}
 use Rattle.lock_one.specs.Machine.{Progress, acquiring, next_of}
 use Rattle.lock_one_word.specs.declared.rule.OneView.{OneView}
 use Rattle.lock_one_word.specs.Calls.{WordLockView, TokenView, IsTokenOf, token_of, one_hold}
@@ -33,13 +33,13 @@ pub token_is : (lock : WordLockView) (mode : Mode) (table : TableId) (me : Self)
 token_is lock mode table me token is id readers held =
     is ∙ (λ i. record { lock = record { id = id i; readers = readers i }; held = held i })
 
-pub ended_holds : (mode : Mode) (call : Call) (v : OneView) → IsGoing (call, End true) no_hold (to_acquire (want_of_mode mode)) v → v.held ≡ one_hold mode
+pub ended_holds : (mode : Mode) (call : WordCall) (v : OneView) → IsGoing (call, End true) no_hold (to_acquire (want_of_mode mode)) v → v.held ≡ one_hold mode
 ended_holds mode call v going = acquired_end call no_hold (want_of_mode mode) v refl (awaits mode) going ∙ acquires mode
 
-pub upgraded_holds : (call : Call) (v : OneView) → IsGoing (call, End true) (one_hold Upgradable) (to_acquire want.Upgrade) v → v.held ≡ one_hold Exclusive
+pub upgraded_holds : (call : WordCall) (v : OneView) → IsGoing (call, End true) (one_hold Upgradable) (to_acquire want.Upgrade) v → v.held ≡ one_hold Exclusive
 upgraded_holds call v going = acquired_end call (one_hold Upgradable) want.Upgrade v refl refl going
 
-pub still_holds : (call : Call) (v : OneView) → IsGoing (call, End false) (one_hold Upgradable) (to_acquire want.Upgrade) v → v.held ≡ one_hold Upgradable
+pub still_holds : (call : WordCall) (v : OneView) → IsGoing (call, End false) (one_hold Upgradable) (to_acquire want.Upgrade) v → v.held ≡ one_hold Upgradable
 still_holds call v going = refused_end call (one_hold Upgradable) (to_acquire want.Upgrade) v refl going
 
 -- an upgrade at its first action

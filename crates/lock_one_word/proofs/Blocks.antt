@@ -1,29 +1,29 @@
 -- A call never changes whether it blocks, nor its lock.
 use Rattle.std.proofs.Common.{◌≡◌, ℕ, ◌+◌, Bool, true, false, not, ◌&&◌, ◌||◌, ◌==◌, nat_lt, if◌then◌else◌, refl, ap, ◌∙◌}
 use Rattle.lock_one.specs.declared.action.Action.TheVariants as action
-use Rattle.lock_one.specs.declared.call.Call.{Call}
+use Rattle.lock_one.specs.declared.call.WordCall.{WordCall}
 use Rattle.lock_one.specs.declared.stage.Stage.{Stage}
 use Rattle.lock_one.specs.declared.stage.Stage.TheVariants as stage
-use Rattle.lock_one.specs.declared.park.Debt.{Debt}
-use Rattle.lock_one.specs.declared.park.Debt.TheVariants as debt
+use Rattle.lock_one.specs.declared.sleep_view.Debt.{Debt}
+use Rattle.lock_one.specs.declared.sleep_view.Debt.TheVariants as debt
 use Rattle.lock_one.specs.Machine.{Progress, acquiring, admits_word, drops_turn, takes_turn, won, has_sleepers, sleepers, wakes_one, has_slept, word_withdrawn, pauses_before, exchanges_before, after_try, word_marked, sleep, mark_or_sleep, marked, time_out, withdrawn, refused, acquired, wait, decide, goes_to, release_on, release_of, release_again, subtract, wakes, next_at, next_of}
 use Rattle.lock_one_word.specs.declared.word_lock.steps.looked.Looked.{Looked}
 use Rattle.lock_one_word.specs.Drives.{Pending, at, looked_at}
 
-abbrev fixed : Call → Bool × ℕ
+abbrev fixed : WordCall → Bool × ℕ
 fixed call = (call.blocks, call.readers)
 
 -- both branches keep it
-either : (b : Bool) (p q : Progress) (call : Call) → fixed p.0 ≡ fixed call → fixed q.0 ≡ fixed call → fixed (if b then p else q).0 ≡ fixed call
+either : (b : Bool) (p q : Progress) (call : WordCall) → fixed p.0 ≡ fixed call → fixed q.0 ≡ fixed call → fixed (if b then p else q).0 ≡ fixed call
 either true p q call here there = here
 either false p q call here there = there
 
-marks : (call : Call) → fixed (mark_or_sleep call).0 ≡ fixed call
+marks : (call : WordCall) → fixed (mark_or_sleep call).0 ≡ fixed call
 marks call =
     either (word_marked call == call.loaded) (sleep call)
     (goes_to (record call { left = word_marked call }) stage.Mark (action.Exchange call.loaded (word_marked call))) call refl refl
 
-times_out : (call : Call) → fixed (time_out call).0 ≡ fixed call
+times_out : (call : WordCall) → fixed (time_out call).0 ≡ fixed call
 times_out call =
     either (call.announced || drops_turn call)
     (goes_to (record call { left = word_withdrawn call }) stage.Withdraw (action.Exchange call.loaded (word_withdrawn call)))
@@ -34,33 +34,33 @@ times_out call =
     (either (wakes_one call && (has_slept call && nat_lt call.loaded sleepers))
     (goes_to (record call { left = call.loaded + sleepers }) stage.Leave (action.Exchange call.loaded (call.loaded + sleepers))) (refused call) call refl refl)
 
-abbrev pauses : Call → Progress
+abbrev pauses : WordCall → Progress
 pauses call = goes_to (record call { pauses = call.pauses + 1 }) stage.Pause (action.Spin (if nat_lt call.pauses 3 then call.pauses + 6 else 9))
 
-waits : (call : Call) → fixed (wait call).0 ≡ fixed call
+waits : (call : WordCall) → fixed (wait call).0 ≡ fixed call
 waits call =
     either (not call.blocks) (refused call) (if call.late then time_out call else if nat_lt call.pauses pauses_before then pauses call else mark_or_sleep call) call refl
     (either call.late (time_out call) (if nat_lt call.pauses pauses_before then pauses call else mark_or_sleep call) call (times_out call)
     (either (nat_lt call.pauses pauses_before) (pauses call) (mark_or_sleep call) call refl (marks call)))
 
-decides : (word : ℕ) (call : Call) → fixed (decide word call).0 ≡ fixed call
+decides : (word : ℕ) (call : WordCall) → fixed (decide word call).0 ≡ fixed call
 decides word call =
     either (admits_word call.announced call.readers word call.want)
     (goes_to (record call { loaded = word; left = after_try call word }) stage.Try (action.Exchange word (after_try call word)))
     (wait (record call { loaded = word })) call refl (waits (record call { loaded = word }))
 
-owes : (d : Debt) (call : Call) → fixed (wakes d call).0 ≡ fixed call
+owes : (d : Debt) (call : WordCall) → fixed (wakes d call).0 ≡ fixed call
 owes debt.Nothing call = refl
 owes debt.One call = refl
 owes debt.All call = refl
 owes debt.Next call = refl
 owes debt.Turn call = refl
 
-releases : (word : ℕ) (call : Call) → fixed (release_again word call).0 ≡ fixed call
+releases : (word : ℕ) (call : WordCall) → fixed (release_again word call).0 ≡ fixed call
 releases word call =
     either (nat_lt call.pauses exchanges_before) (release_on word (record call { pauses = call.pauses + 1 })) (subtract call) call refl refl
 
-next : (st : Stage) (found : ℕ) (call : Call) → fixed (next_at st found call).0 ≡ fixed call
+next : (st : Stage) (found : ℕ) (call : WordCall) → fixed (next_at st found call).0 ≡ fixed call
 next stage.Look found call = decides found call
 next stage.Try found call =
     either (found == call.loaded) (won call) (decide found call) call
@@ -85,7 +85,7 @@ next stage.Acquired found call = refl
 next stage.Refused found call = refl
 next stage.Ended found call = refl
 
-pub still_blocks : (found : ℕ) (call : Call) → (next_of found call).0.blocks ≡ call.blocks
+pub still_blocks : (found : ℕ) (call : WordCall) → (next_of found call).0.blocks ≡ call.blocks
 still_blocks found call = ap (λ (x : Bool × ℕ). x.0) (next call.stage found call)
 
 pub keeps_blocks : (found : ℕ) (p q : Pending) → at q ≡ next_of found p.call → q.call.blocks ≡ p.call.blocks

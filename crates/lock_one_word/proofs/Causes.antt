@@ -6,7 +6,7 @@ use Rattle.lock_word.specs.declared.want.ExWant.{ExWant}
 use Rattle.lock_word.specs.declared.down.Down.{Down}
 use Rattle.lock_one.specs.declared.action.Action.{Action}
 use Rattle.lock_one.specs.declared.action.Action.TheVariants.{End}
-use Rattle.lock_one.specs.declared.call.Call.{Call}
+use Rattle.lock_one.specs.declared.call.WordCall.{WordCall}
 use Rattle.lock_one.specs.Machine.{Progress, admits_word, acquiring, taking, next_of}
 use Rattle.lock_one.specs.Rule.{is_upgrade}
 use Rattle.lock_one.specs.Answers.{IsLate, HasCause, CauseAt}
@@ -23,11 +23,11 @@ begins readers wish blocks p is = subst (λ (q : Progress). HasCause q.0) (sym i
 pub begins_release : (readers : ℕ) (d : Down) (p : Progress) → p ≡ taking readers d → HasCause p.0
 begins_release readers d p is = subst (λ (q : Progress). HasCause q.0) (sym is) (refusals_have_causes.releases readers d)
 
-pub goes_on : (found : ℕ) (call next : Call) (a : Action) → HasCause call → (next, a) ≡ next_of found call → HasCause next
+pub goes_on : (found : ℕ) (call next : WordCall) (a : Action) → HasCause call → (next, a) ≡ next_of found call → HasCause next
 goes_on found call next a known is = subst (λ (q : Progress). HasCause q.0) (sym is) (refusals_have_causes.goes_on found call known)
 
 -- the refusal of a call rests on the word that it found last, or on its deadline
-cause_by : (call : Call) (v : OneView) (before : Hold) (wish : ExWant) (e : Ending) → IsGoing (call, End false) before (to_acquire wish) v → HasCause call
+cause_by : (call : WordCall) (v : OneView) (before : Hold) (wish : ExWant) (e : Ending) → IsGoing (call, End false) before (to_acquire wish) v → HasCause call
     → e.readers ≡ call.readers → e.word ≡ call.loaded → ((call.blocks ≡ false) × IsRefusedBy v.readers wish e.word) ⊎ IsLate call
 cause_by call v before wish e going known readers word =
     elim (ends_not call.stage call (placed v.held (End false)) false going.at) [
@@ -77,7 +77,7 @@ try_spent p v before wish e going never spent is =
     }
 
 -- a call that blocks was refused after its deadline
-pub times_out : (call : Call) (v : OneView) (before : Hold) (wish : ExWant) (e : Ending) → IsGoing (call, End false) before (to_acquire wish) v → call.blocks ≡ true
+pub times_out : (call : WordCall) (v : OneView) (before : Hold) (wish : ExWant) (e : Ending) → IsGoing (call, End false) before (to_acquire wish) v → call.blocks ≡ true
     → HasCause call → e.readers ≡ call.readers → e.word ≡ call.loaded → e.late ≡ call.late → TimesOut v.readers e
 times_out call v before wish e going blocks known readers word late = (
   readers ∙ going.lock,

@@ -3,8 +3,8 @@ use Rattle.std.proofs.Common.{◌≡◌, ℕ, ◌^◌, Bool, true, false, nat_lt
 use Rattle.std.proofs.lemmas.Bool.{false≢true, true≢false}
 use Rattle.lock_modes.specs.declared.hold.Hold.{Hold}
 use Rattle.lock_one.specs.declared.action.Action.{Action}
-use Rattle.lock_one.specs.declared.action.Action.TheVariants.{Exchange, Park, Yield}
-use Rattle.lock_one.specs.declared.call.Call.{Call}
+use Rattle.lock_one.specs.declared.action.Action.TheVariants.{Exchange, Sleep, Yield}
+use Rattle.lock_one.specs.declared.call.WordCall.{WordCall}
 use Rattle.lock_one.specs.declared.stage.Stage.TheVariants as stage
 use Rattle.lock_one.specs.Machine.{Progress, acquiring, class_of, is_brief, sleep_of, next_of}
 use Rattle.lock_one.specs.Steps.{IsAt, is_step}
@@ -23,15 +23,15 @@ keeps_time has_end found p q turns sleeps known late =
       | inr slept ↦ sleeps slept.0 slept.1
     ]
 
-sleeps_alone : (call : Call) → touches_lock (sleep_of call) ≡ false
+sleeps_alone : (call : WordCall) → touches_lock (sleep_of call) ≡ false
 sleeps_alone call = by (nat_lt call.readers (2 ^ 27))
   where
-    by : (b : Bool) → touches_lock (if b then Park call.loaded (class_of call.announced call.want) (is_brief call) else Yield) ≡ false
+    by : (b : Bool) → touches_lock (if b then Sleep call.loaded (class_of call.announced call.want) (is_brief call) else Yield) ≡ false
     by true = refl
     by false = refl
 
 -- a call that steps on the word or wakes does not sleep
-never_asleep : (call : Call) (a : Action) (v : OneView) (before : Hold) (task : Task) → IsGoing (call, a) before task v → touches_lock a ≡ true → call.stage ≡ stage.Sleep → ⊥
+never_asleep : (call : WordCall) (a : Action) (v : OneView) (before : Hold) (task : Task) → IsGoing (call, a) before task v → touches_lock a ≡ true → call.stage ≡ stage.Sleep → ⊥
 never_asleep call a v before task going on at_sleep =
     let is = subst (λ st. IsAt st call (placed v.held a) a) at_sleep going.at in
     true≢false (sym on ∙ (ap touches_lock is.5 ∙ sleeps_alone call))
@@ -54,7 +54,7 @@ looked_in_time l =
       | inr slept ↦ true≢false (ap is_step slept.0)
     ])
 
-pub still_in_time : (found old new : ℕ) (call : Call) (v : OneView) (before : Hold) (task : Task) → IsGoing (call, Exchange old new) before task v → call.late ≡ false
+pub still_in_time : (found old new : ℕ) (call : WordCall) (v : OneView) (before : Hold) (task : Task) → IsGoing (call, Exchange old new) before task v → call.late ≡ false
     → (next_of found call).0.late ≡ false
 still_in_time found old new call v before task going known =
     in_time (next_of found call).0.late

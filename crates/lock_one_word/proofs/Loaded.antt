@@ -4,12 +4,12 @@ use Rattle.std.proofs.lemmas.Bool.{and_parts, false≢true}
 use Rattle.lock_word.specs.Word.{word_admits, word_after, amount}
 use Rattle.lock_one.specs.declared.action.Action.{Action}
 use Rattle.lock_one.specs.declared.action.Action.TheVariants as action
-use Rattle.lock_one.specs.declared.call.Call.{Call}
+use Rattle.lock_one.specs.declared.call.WordCall.{WordCall}
 use Rattle.lock_one.specs.declared.stage.Stage.{Stage}
 use Rattle.lock_one.specs.declared.stage.Stage.TheVariants as stage
-use Rattle.lock_one.specs.declared.park.ParkView.{ParkView}
-use Rattle.lock_one.specs.declared.park.Debt.{Debt}
-use Rattle.lock_one.specs.declared.park.Debt.TheVariants as debt
+use Rattle.lock_one.specs.declared.sleep_view.SleepView.{SleepView}
+use Rattle.lock_one.specs.declared.sleep_view.Debt.{Debt}
+use Rattle.lock_one.specs.declared.sleep_view.Debt.TheVariants as debt
 use Rattle.lock_one.specs.Machine.{Progress, turn, core_of, has_turn, has_sleepers, with_turn, admits_word, drops_turn, takes_turn, after_other, won, sets_turn, word_unbarred, sleepers, wakes_one, has_slept, is_due, word_withdrawn, is_exclusive, sleep, sets_bar, word_marked, mark_or_sleep, marked, time_out, withdrawn, wait, after_try, decide, release_of, word_released, release_on, subtract, release_again, wakes, acquired, refused, goes_to, next_at}
 use Rattle.lock_one.specs.Rule.{passes_turn}
 use Rattle.lock_one.specs.Steps.{IsAt, is_step}
@@ -19,14 +19,14 @@ use Rattle.lock_one.proofs.Words.{encoded_small}
 abbrev loaded : Progress → ℕ
 loaded p = p.0.loaded
 
-waits : (call : Call) → loaded (mark_or_sleep call) ≡ call.loaded
+waits : (call : WordCall) → loaded (mark_or_sleep call) ≡ call.loaded
 waits call = by (word_marked call == call.loaded)
   where
     by : (b : Bool) → loaded (if b then sleep call else goes_to (record call { left = word_marked call }) stage.Mark (action.Exchange call.loaded (word_marked call))) ≡ call.loaded
     by true = refl
     by false = refl
 
-times_out : (call : Call) → loaded (time_out call) ≡ call.loaded
+times_out : (call : WordCall) → loaded (time_out call) ≡ call.loaded
 times_out call = by (call.announced || drops_turn call) (wakes_one call && (has_slept call && nat_lt call.loaded sleepers))
   where
     by : (b c : Bool) → loaded (if b then goes_to (record call { left = word_withdrawn call }) stage.Withdraw (action.Exchange call.loaded (word_withdrawn call))
@@ -35,7 +35,7 @@ times_out call = by (call.announced || drops_turn call) (wakes_one call && (has_
     by false true = refl
     by false false = refl
 
-rests : (call : Call) → loaded (wait call) ≡ call.loaded
+rests : (call : WordCall) → loaded (wait call) ≡ call.loaded
 rests call = by call.blocks call.late (nat_lt call.pauses 6)
   where
     by : (b c d : Bool) → loaded (if not b then refused call else if c then time_out call
@@ -45,35 +45,35 @@ rests call = by call.blocks call.late (nat_lt call.pauses 6)
     by true false true = refl
     by true false false = waits call
 
-decides : (word : ℕ) (call : Call) → loaded (decide word call) ≡ word
+decides : (word : ℕ) (call : WordCall) → loaded (decide word call) ≡ word
 decides word call = by (admits_word call.announced call.readers word call.want)
   where
     by : (b : Bool) → loaded (if b then goes_to (record call { loaded = word; left = after_try call word }) stage.Try (action.Exchange word (after_try call word)) else wait (record call { loaded = word })) ≡ word
     by true = refl
     by false = rests (record call { loaded = word })
 
-wakes_up : (d : Debt) (call : Call) → loaded (wakes d call) ≡ call.loaded
+wakes_up : (d : Debt) (call : WordCall) → loaded (wakes d call) ≡ call.loaded
 wakes_up debt.Nothing call = refl
 wakes_up debt.One call = refl
 wakes_up debt.All call = refl
 wakes_up debt.Next call = refl
 wakes_up debt.Turn call = refl
 
-wins : (call : Call) → loaded (won call) ≡ call.loaded
+wins : (call : WordCall) → loaded (won call) ≡ call.loaded
 wins call = by (takes_turn call call.loaded && has_sleepers call.loaded)
   where
     by : (b : Bool) → loaded (if b then goes_to call stage.WakeAcquired action.WakeAll else acquired call) ≡ call.loaded
     by true = refl
     by false = refl
 
-withdraws : (call : Call) → loaded (withdrawn call) ≡ call.loaded
+withdraws : (call : WordCall) → loaded (withdrawn call) ≡ call.loaded
 withdraws call = by (has_sleepers call.loaded && not (wakes_one call))
   where
     by : (b : Bool) → loaded (if b then goes_to (record call { announced = false; turned = false }) stage.WakeRefused action.WakeAll else refused (record call { announced = false; turned = false })) ≡ call.loaded
     by true = refl
     by false = refl
 
-marked_small : (call : Call) → word_marked call < 2 ^ 37
+marked_small : (call : WordCall) → word_marked call < 2 ^ 37
 marked_small call = with_bits (core_of call.loaded + (if sets_bar call then 2 ^ 34 else 0)) (has_turn call.loaded || sets_turn call) (fits (sets_bar call) refl)
   where
     fits : (b : Bool) → sets_bar call ≡ b → core_of call.loaded + (if b then 2 ^ 34 else 0) < 2 ^ 35
@@ -91,7 +91,7 @@ marked_small call = with_bits (core_of call.loaded + (if sets_bar call then 2 ^ 
     with_bits core false low = omega arith
 
 -- the loaded number stays below 2^37 if each number that the call finds is
-module _ (found : ℕ) (call : Call) (small : found < 2 ^ 37) (was : call.loaded < 2 ^ 37) where
+module _ (found : ℕ) (call : WordCall) (small : found < 2 ^ 37) (was : call.loaded < 2 ^ 37) where
   decided : (b : Bool) (next : Progress) → loaded next ≡ call.loaded → loaded (if b then next else decide found call) < 2 ^ 37
   decided true next e = subst (λ n. n < 2 ^ 37) (sym e) was
   decided false next e = subst (λ n. n < 2 ^ 37) (sym (decides found call)) small
@@ -146,7 +146,7 @@ are_small : (old new x y : ℕ) → action.Exchange old new ≡ action.Exchange 
 unfolding first_of second_of
 are_small old new x y e a b = (subst (λ n. n < 2 ^ 37) (sym (ap first_of e)) a, subst (λ n. n < 2 ^ 37) (sym (ap second_of e)) b)
 
-pub exchange_small : (st : Stage) (call : Call) (v : ParkView) (old new : ℕ) → is_step st ≡ true → call.loaded < 2 ^ 37
+pub exchange_small : (st : Stage) (call : WordCall) (v : SleepView) (old new : ℕ) → is_step st ≡ true → call.loaded < 2 ^ 37
     → IsAt st call v (action.Exchange old new) → AreSmall old new
 exchange_small stage.Look call v old new s low is = let e = is.1 in cc
 exchange_small stage.Try call v old new s low is =

@@ -14,8 +14,8 @@ use Rattle.lock_word.specs.Word.{word_of}
 use Rattle.lock_word.proofs.Holders.{sum_by-slice_set}
 use Rattle.lock_word.proofs.SeatKeeps.{seat_at}
 use Rattle.lock_word.proofs.Words.{encoding_is_injective}
-use Rattle.lock_one.specs.declared.park.ParkView.{ParkView}
-use Rattle.lock_one.specs.declared.park.Park.TheVariants.{Awake, Asleep}
+use Rattle.lock_one.specs.declared.sleep_view.SleepView.{SleepView}
+use Rattle.lock_one.specs.declared.sleep_view.SleepState.TheVariants.{Awake, Asleep}
 use Rattle.lock_one.specs.Machine.{core_of}
 use Rattle.lock_one.specs.Rule.{holds_of}
 use Rattle.lock_one.specs.Runs.{limits_in}
@@ -26,19 +26,19 @@ use Rattle.lock_one_word.specs.Seats.{resting, parties_in}
 pub party_at : (views : List OneView) (k : ℕ) (v : OneView) → get_elem? views k ≡ some v → slice_get (parties_in views) k ≡ Some (resting v)
 party_at views k v h = rw (slice_get-map resting views k, seat_at views k v h)
 
-each_rests : (views : List OneView) (k : ℕ) (p : ParkView) → slice_get (parties_in views) k ≡ Some p → p.park ≡ Awake
+each_rests : (views : List OneView) (k : ℕ) (p : SleepView) → slice_get (parties_in views) k ≡ Some p → p.sleep ≡ Awake
 each_rests [] k p h = cc
-each_rests (v ∷ views) zero p h = sym (ap (λ (q : ParkView). q.park) (same_Some (resting v) p h))
+each_rests (v ∷ views) zero p h = sym (ap (λ (q : SleepView). q.sleep) (same_Some (resting v) p h))
 each_rests (v ∷ views) (suc k) p h = each_rests views k p h
 
 -- while no party sleeps, the rule says nothing of what the parties owe
-pub keeps_resting : (limit word : ℕ) (views : List OneView) (id : ℕ) (you : ParkView) (v : OneView) → v.held ≡ you.held
+pub keeps_resting : (limit word : ℕ) (views : List OneView) (id : ℕ) (you : SleepView) (v : OneView) → v.held ≡ you.held
     → Keeps (limits_in limit) word (slice_set (parties_in views) id you) → Keeps (limits_in limit) word (parties_in (slice_set views id v))
 keeps_resting limit word views id you v held was =
     let hs : holds_of (parties_in (slice_set views id v)) ≡ holds_of (slice_set (parties_in views) id you)
     = ap holds_of (map-set resting views id v)
-    ∙ (map-set (λ (p : ParkView). p.held) (parties_in views) id (resting v)
-    ∙ (ap (λ h. slice_set (holds_of (parties_in views)) id h) held ∙ sym (map-set (λ (p : ParkView). p.held) (parties_in views) id you))) in
+    ∙ (map-set (λ (p : SleepView). p.held) (parties_in views) id (resting v)
+    ∙ (ap (λ h. slice_set (holds_of (parties_in views)) id h) held ∙ sym (map-set (λ (p : SleepView). p.held) (parties_in views) id you))) in
     record {
       small = was.small;
       kept = record {
@@ -51,7 +51,7 @@ keeps_resting limit word views id you v held was =
       };
     }
   where
-    awake : (k : ℕ) (p : ParkView) (want : ExWant) → slice_get (parties_in (slice_set views id v)) k ≡ Some p → p.park ≡ Asleep want → ⊥
+    awake : (k : ℕ) (p : SleepView) (want : ExWant) → slice_get (parties_in (slice_set views id v)) k ≡ Some p → p.sleep ≡ Asleep want → ⊥
     awake k p want is asleep = let rests = each_rests (slice_set views id v) k p is in cc
 
 -- a seat that keeps its view changes no view
@@ -70,8 +70,8 @@ same_hold_by : (a b : Hold) → a.bag.shared ≡ b.bag.shared → a.bag.exclusiv
 same_hold_by a b shared exclusive upgradable announced =
     λ i. record { bag = record { shared = shared i; exclusive = exclusive i; upgradable = upgradable i }; announced = announced i }
 
-set_of : (views : List ParkView) (k : ℕ) (p : ParkView) → holds_of (slice_set views k p) ≡ slice_set (holds_of views) k p.held
-set_of views k p = map-set (λ (q : ParkView). q.held) views k p
+set_of : (views : List SleepView) (k : ℕ) (p : SleepView) → holds_of (slice_set views k p) ≡ slice_set (holds_of views) k p.held
+set_of views k p = map-set (λ (q : SleepView). q.held) views k p
 
 same_part : (f : Hold → ℕ) (hs : List Hold) (k : ℕ) (me a b : Hold) → slice_get hs k ≡ Some me
     → all_of (slice_set hs k a) ≡ all_of (slice_set hs k b) → (g : BarredBag → ℕ) → ((ys : List Hold) → g (all_of ys) ≡ sum_by f ys) → f a ≡ f b
@@ -81,11 +81,11 @@ same_part f hs k me a b at same g sums =
     let equal : sum_by f (slice_set hs k a) ≡ sum_by f (slice_set hs k b) = sym (sums (slice_set hs k a)) ∙ (ap g same ∙ sums (slice_set hs k b)) in
     omega arith
 
-pub same_hold : (limit word : ℕ) (views : List ParkView) (k : ℕ) (me a b : ParkView) → IsLimit limit → slice_get views k ≡ Some me
+pub same_hold : (limit word : ℕ) (views : List SleepView) (k : ℕ) (me a b : SleepView) → IsLimit limit → slice_get views k ≡ Some me
     → Keeps (limits_in limit) word (slice_set views k a) → Keeps (limits_in limit) word (slice_set views k b) → a.held ≡ b.held
 same_hold limit word views k me a b range at one two =
     let hs = holds_of views in
-    let here : slice_get hs k ≡ Some me.held = rw (slice_get-map (λ (q : ParkView). q.held) views k, at) in
+    let here : slice_get hs k ≡ Some me.held = rw (slice_get-map (λ (q : SleepView). q.held) views k, at) in
     let same_word : word_of (all_of (holds_of (slice_set views k a))) ≡ word_of (all_of (holds_of (slice_set views k b)))
     = sym one.kept.coded ∙ two.kept.coded in
     let all : all_of (holds_of (slice_set views k a)) ≡ all_of (holds_of (slice_set views k b))

@@ -5,29 +5,30 @@ use Rattle.lock_modes.specs.declared.hold.Hold.{Hold}
 use Rattle.lock_word.specs.declared.down.Down.{Down}
 use Rattle.lock_one.specs.declared.action.Action.{Action}
 use Rattle.lock_one.specs.declared.action.Action.TheVariants as action
-use Rattle.lock_one.specs.declared.call.Call.{Call}
+use Rattle.lock_one.specs.declared.call.WordCall.{WordCall}
 use Rattle.lock_one.specs.declared.stage.Stage.{Stage}
 use Rattle.lock_one.specs.declared.stage.Stage.TheVariants as stage
-use Rattle.lock_one.specs.declared.park.Debt.{Debt}
-use Rattle.lock_one.specs.declared.park.Debt.TheVariants as debt
+use Rattle.lock_one.specs.declared.sleep_view.Debt.{Debt}
+use Rattle.lock_one.specs.declared.sleep_view.Debt.TheVariants as debt
 use Rattle.lock_one.specs.Machine.{Progress, has_sleepers, release_of, release_on, subtract, release_again, wakes, next_at, next_of}
+use Rattle.lock_one.specs.Answers.{releases_at}
 use Rattle.lock_one.specs.Runs.{debt_at}
 use Rattle.lock_one.specs.Steps.{IsAt, IsWake}
 use Rattle.lock_one_word.specs.declared.rule.OneView.{OneView}
-use Rattle.lock_one_word.specs.Seats.{placed, Task, releases, to_release, IsGoing}
+use Rattle.lock_one_word.specs.Seats.{placed, Task, to_release, IsGoing}
 use Rattle.lock_one_word.specs.Drives.{touches_lock, rank_at, rank}
 
 abbrev ranked : Progress → ℕ
 ranked p = rank p.0
 
-wakes_last : (d : Debt) (call : Call) → ranked (wakes d call) < 2
+wakes_last : (d : Debt) (call : WordCall) → ranked (wakes d call) < 2
 wakes_last debt.Nothing call = omega arith
 wakes_last debt.One call = omega arith
 wakes_last debt.All call = omega arith
 wakes_last debt.Next call = omega arith
 wakes_last debt.Turn call = omega arith
 
-module _ (found : ℕ) (call : Call) where
+module _ (found : ℕ) (call : WordCall) where
   again : (b : Bool) → nat_lt call.pauses 8 ≡ b
       → ranked (if b then release_on found (record call { pauses = call.pauses + 1 }) else subtract call) < 3 + (8 - call.pauses)
   again true e = let few = ltb-true call.pauses 8 e in omega arith
@@ -41,7 +42,7 @@ module _ (found : ℕ) (call : Call) where
   looking true = omega arith
   looking false = omega arith
 
-  less : (st : Stage) → releases st ≡ true → (st ≡ stage.Ended → ⊥) → ranked (next_at st found call) < rank_at st call.pauses
+  less : (st : Stage) → releases_at st ≡ true → (st ≡ stage.Ended → ⊥) → ranked (next_at st found call) < rank_at st call.pauses
   less stage.LookToRemove r on = looking (has_sleepers found)
   less stage.Subtract r on = wakes_last (release_of call.readers found call.down).1 call
   less stage.Release r on = releasing (found == call.loaded)
@@ -59,17 +60,17 @@ module _ (found : ℕ) (call : Call) where
   less stage.Acquired r on = absurd (false≢true r)
   less stage.Refused r on = absurd (false≢true r)
 
-pub smaller : (found : ℕ) (call : Call) (a : Action) (before : Hold) (d : Down) (v : OneView) → touches_lock a ≡ true → IsGoing (call, a) before (to_release d) v
+pub smaller : (found : ℕ) (call : WordCall) (a : Action) (before : Hold) (d : Down) (v : OneView) → touches_lock a ≡ true → IsGoing (call, a) before (to_release d) v
     → rank (next_of found call).0 < rank call
 smaller found call a before d v touches going =
     less found call call.stage (ap (λ (t : Task). t.2) going.tasked)
     (λ e. let is = subst (λ st. IsAt st call (placed v.held a) a) e going.at in true≢false (sym touches ∙ ap touches_lock is.1))
 
 -- a release whose next action is none on the lock has ended
-pub has_ended : (call : Call) (a : Action) (before : Hold) (d : Down) (v : OneView) → touches_lock a ≡ false → IsGoing (call, a) before (to_release d) v → a ≡ action.End true
+pub has_ended : (call : WordCall) (a : Action) (before : Hold) (d : Down) (v : OneView) → touches_lock a ≡ false → IsGoing (call, a) before (to_release d) v → a ≡ action.End true
 has_ended call a before d v off going = by call.stage (ap (λ (t : Task). t.2) going.tasked) going.at
   where
-    by : (st : Stage) → releases st ≡ true → IsAt st call (placed v.held a) a → a ≡ action.End true
+    by : (st : Stage) → releases_at st ≡ true → IsAt st call (placed v.held a) a → a ≡ action.End true
     by stage.LookToRemove r is = absurd (true≢false (sym (ap touches_lock is.2) ∙ off))
     by stage.Subtract r is = absurd (true≢false (sym (ap touches_lock is.2) ∙ off))
     by stage.Release r is = absurd (true≢false (sym (ap touches_lock is.2) ∙ off))

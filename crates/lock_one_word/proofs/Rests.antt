@@ -11,13 +11,14 @@ use Rattle.lock_word.specs.Unblocking.{is_awaited}
 use Rattle.lock_word.specs.Word.{step_of_want, step_of_down}
 use Rattle.lock_one.specs.declared.action.Action.{Action}
 use Rattle.lock_one.specs.declared.action.Action.TheVariants as action
-use Rattle.lock_one.specs.declared.call.Call.{Call}
+use Rattle.lock_one.specs.declared.call.WordCall.{WordCall}
 use Rattle.lock_one.specs.declared.stage.Stage.{Stage}
 use Rattle.lock_one.specs.declared.stage.Stage.TheVariants as stage
-use Rattle.lock_one.specs.declared.park.ParkView.{ParkView}
-use Rattle.lock_one.specs.declared.park.Park.TheVariants.{Awake}
-use Rattle.lock_one.specs.declared.park.Debt.TheVariants as debt
+use Rattle.lock_one.specs.declared.sleep_view.SleepView.{SleepView}
+use Rattle.lock_one.specs.declared.sleep_view.SleepState.TheVariants.{Awake}
+use Rattle.lock_one.specs.declared.sleep_view.Debt.TheVariants as debt
 use Rattle.lock_one.specs.Machine.{Progress, is_due, acquiring, taking, removes_reader, begun, goes_to, release_on, alone, next_at, next_of}
+use Rattle.lock_one.specs.Answers.{releases_at}
 use Rattle.lock_one.specs.Runs.{debt_at}
 use Rattle.lock_one.specs.Steps.{ends, Acquires, IsAt, IsWake, hold_at}
 use Rattle.lock_one.proofs.Actions.{on_word}
@@ -26,14 +27,14 @@ use Rattle.lock_one.proofs.RunViews.{quiet_sleep, same_view}
 use Rattle.lock_one.proofs.Sleeps.{after_sleep}
 use Rattle.lock_one_word.specs.declared.rule.OneView.{OneView}
 use Rattle.lock_one_word.specs.Drives.{Pending, at, GoesOn}
-use Rattle.lock_one_word.specs.Seats.{Self, placed, Task, to_acquire, to_release, releases, IsGoing}
+use Rattle.lock_one_word.specs.Seats.{Self, placed, Task, to_acquire, to_release, IsGoing}
 use Rattle.lock_one_word.proofs.Tasks.{keeps_task, is_on}
 
 abbrev IsOn : Progress → Hold → Hold → Type 0
 IsOn next before held = IsAt next.0.stage next.0 (placed held next.1) next.1 × (held ≡ hold_at next.0.stage next.0 before)
 
 -- a pause, a sleep or a wake-up leaves what the party holds
-after : (st : Stage) (call : Call) (held before : Hold) (a : Action) (found : ℕ) → IsAt st call (placed held a) a → held ≡ hold_at st call before
+after : (st : Stage) (call : WordCall) (held before : Hold) (a : Action) (found : ℕ) → IsAt st call (placed held a) a → held ≡ hold_at st call before
     → on_word a ≡ false → ends a ≡ false → IsOn (next_at st found call) before held
 after stage.Look call held before a found is h off on = absurd (true≢false (sym (ap on_word is.1) ∙ off))
 after stage.Try call held before a found is h off on = absurd (true≢false (sym (ap on_word is.2) ∙ off))
@@ -43,7 +44,7 @@ after stage.Pause call held before a found is h off on = by a is
     by action.Load is = absurd is.1
     by (action.Exchange x y) is = absurd is.1
     by (action.Subtract d) is = absurd is.1
-    by (action.Park n c b) is = absurd is.1
+    by (action.Sleep n c b) is = absurd is.1
     by action.WakeOne is = absurd is.1
     by action.WakeAll is = absurd is.1
     by action.WakeNext is = absurd is.1
@@ -56,7 +57,7 @@ after stage.Sleep call held before a found is h off on =
     let owes_none : debt_at a ≡ debt.Nothing = ap debt_at is.5 ∙ (quiet_sleep call).0 in
     let same : placed held a ≡ placed held action.Load = same_view (placed held a) held Awake debt.Nothing refl refl owes_none in
     let acq : Acquires call.want call.announced call.turned true call.blocks (is_due call) (placed held action.Load)
-    = subst (λ (v : ParkView). Acquires call.want call.announced call.turned true call.blocks (is_due call) v) same is.0 in
+    = subst (λ (v : SleepView). Acquires call.want call.announced call.turned true call.blocks (is_due call) v) same is.0 in
     (((after_sleep call found (placed held action.Load) Awake acq is.2, refl), refl), h)
 after stage.Withdraw call held before a found is h off on = absurd (true≢false (sym (ap on_word is.4) ∙ off))
 after stage.Leave call held before a found is h off on = absurd (true≢false (sym (ap on_word is.4) ∙ off))
@@ -70,7 +71,7 @@ after stage.Acquired call held before a found is h off on = absurd (true≢false
 after stage.Refused call held before a found is h off on = absurd (true≢false (sym (ap ends is.1) ∙ on))
 after stage.Ended call held before a found is h off on = absurd (true≢false (sym (ap ends is.1) ∙ on))
 
-not_over : (st : Stage) (call : Call) (v : ParkView) (a : Action) → IsAt st call v a → ends a ≡ false → is_on st ≡ true
+not_over : (st : Stage) (call : WordCall) (v : SleepView) (a : Action) → IsAt st call v a → ends a ≡ false → is_on st ≡ true
 not_over stage.Look call v a is on = refl
 not_over stage.Try call v a is on = refl
 not_over stage.Pause call v a is on = refl
@@ -89,7 +90,7 @@ not_over stage.Refused call v a is on = absurd (true≢false (sym (ap ends is.1)
 not_over stage.Ended call v a is on = absurd (true≢false (sym (ap ends is.1) ∙ on))
 
 -- a call goes on after an action that is no step on the word
-pub rests : (call : Call) (a : Action) (before : Hold) (task : Task) (v : OneView) (found : ℕ) → on_word a ≡ false → ends a ≡ false
+pub rests : (call : WordCall) (a : Action) (before : Hold) (task : Task) (v : OneView) (found : ℕ) → on_word a ≡ false → ends a ≡ false
     → IsGoing (call, a) before task v → IsGoing (next_of found call) before task v
 rests call a before task v found off on going =
     let is = after call.stage call v.held before a found going.at going.held off on in
@@ -187,7 +188,7 @@ releasing_first readers d v lock has = by (removes_reader readers d)
 
 -- what a party holds at the end of its call
 
-pub refused_end : (call : Call) (before : Hold) (task : Task) (v : OneView) → before.announced ≡ false → IsGoing (call, action.End false) before task v → v.held ≡ before
+pub refused_end : (call : WordCall) (before : Hold) (task : Task) (v : OneView) → before.announced ≡ false → IsGoing (call, action.End false) before task v → v.held ≡ before
 refused_end call before task v clean going = answers_match_holds.refused_holds_as_before call (placed v.held (action.End false)) before clean going.at going.held
 
 same_after : (before : Hold) (wish : ExWant) (a : Bool) → (hold_after (record before { announced = a }) (step_of_want wish)).bag ≡ (hold_after before (step_of_want wish)).bag
@@ -204,14 +205,14 @@ stays_clean before want.Upgradable clean o = clean
 stays_clean before want.Upgrade clean o = clean
 stays_clean before want.Announce clean o = absurd (false≢true o)
 
-pub acquired_end : (call : Call) (before : Hold) (wish : ExWant) (v : OneView) → before.announced ≡ false → IsTrue (is_awaited wish)
+pub acquired_end : (call : WordCall) (before : Hold) (wish : ExWant) (v : OneView) → before.announced ≡ false → IsTrue (is_awaited wish)
     → IsGoing (call, action.End true) before (to_acquire wish) v → v.held ≡ hold_after before (step_of_want wish)
 acquired_end call before wish v clean awaited going = by call.stage refl going.at going.held
   where
     is_want : call.want ≡ wish
     is_want = ap (λ (t : Task). t.0) going.tasked
 
-    free : releases call.stage ≡ false
+    free : releases_at call.stage ≡ false
     free = ap (λ (t : Task). t.2) going.tasked
 
     both : (bag_is : v.held.bag ≡ (hold_after before (step_of_want wish)).bag) → v.held.announced ≡ (hold_after before (step_of_want wish)).announced → v.held ≡ hold_after before (step_of_want wish)
@@ -221,7 +222,7 @@ acquired_end call before wish v clean awaited going = by call.stage refl going.a
     by stage.Acquired e is h =
         both (ap (λ (x : Hold). x.bag) h ∙ (same_after before call.want call.announced ∙ ap (λ w. (hold_after before (step_of_want w)).bag) is_want))
         (is.2 ∙ sym (stays_clean before wish clean awaited))
-    by stage.Ended e is h = absurd (true≢false (sym (ap releases e) ∙ free))
+    by stage.Ended e is h = absurd (true≢false (sym (ap releases_at e) ∙ free))
     by stage.Refused e is h = let x = is.1 in cc
     by stage.Look e is h = let x = is.1 in cc
     by stage.Try e is h = let x = is.2 in cc
@@ -230,36 +231,36 @@ acquired_end call before wish v clean awaited going = by call.stage refl going.a
     by stage.Sleep e is h = absurd (true≢false (ap ends is.5 ∙ (quiet_sleep call).1))
     by stage.Withdraw e is h = let x = is.4 in cc
     by stage.Leave e is h = let x = is.4 in cc
-    by stage.LookToRemove e is h = absurd (true≢false (sym (ap releases e) ∙ free))
-    by stage.Subtract e is h = absurd (true≢false (sym (ap releases e) ∙ free))
-    by stage.Release e is h = absurd (true≢false (sym (ap releases e) ∙ free))
-    by stage.Wake e is h = absurd (true≢false (sym (ap releases e) ∙ free))
+    by stage.LookToRemove e is h = absurd (true≢false (sym (ap releases_at e) ∙ free))
+    by stage.Subtract e is h = absurd (true≢false (sym (ap releases_at e) ∙ free))
+    by stage.Release e is h = absurd (true≢false (sym (ap releases_at e) ∙ free))
+    by stage.Wake e is h = absurd (true≢false (sym (ap releases_at e) ∙ free))
     by stage.WakeRefused e is h = let x = is.2 in cc
     by stage.WakeAcquired e is h = let x = is.2 in cc
 
-pub released_end : (call : Call) (before : Hold) (d : Down) (b : Bool) (v : OneView) → IsGoing (call, action.End b) before (to_release d) v
+pub released_end : (call : WordCall) (before : Hold) (d : Down) (b : Bool) (v : OneView) → IsGoing (call, action.End b) before (to_release d) v
     → v.held ≡ hold_after before (step_of_down d)
 released_end call before d b v going = by call.stage refl going.at going.held
   where
     is_down : call.down ≡ d
     is_down = ap (λ (t : Task). t.1) going.tasked
 
-    busy : releases call.stage ≡ true
+    busy : releases_at call.stage ≡ true
     busy = ap (λ (t : Task). t.2) going.tasked
 
     by : (st : Stage) → call.stage ≡ st → IsAt st call (placed v.held (action.End b)) (action.End b) → v.held ≡ hold_at st call before → v.held ≡ hold_after before (step_of_down d)
     by stage.Ended e is h = h ∙ ap (λ x. hold_after before (step_of_down x)) is_down
-    by stage.Acquired e is h = absurd (true≢false (sym busy ∙ ap releases e))
-    by stage.Refused e is h = absurd (true≢false (sym busy ∙ ap releases e))
-    by stage.Look e is h = absurd (true≢false (sym busy ∙ ap releases e))
-    by stage.Try e is h = absurd (true≢false (sym busy ∙ ap releases e))
-    by stage.Pause e is h = absurd (true≢false (sym busy ∙ ap releases e))
-    by stage.Mark e is h = absurd (true≢false (sym busy ∙ ap releases e))
-    by stage.Sleep e is h = absurd (true≢false (sym busy ∙ ap releases e))
-    by stage.Withdraw e is h = absurd (true≢false (sym busy ∙ ap releases e))
-    by stage.Leave e is h = absurd (true≢false (sym busy ∙ ap releases e))
-    by stage.WakeRefused e is h = absurd (true≢false (sym busy ∙ ap releases e))
-    by stage.WakeAcquired e is h = absurd (true≢false (sym busy ∙ ap releases e))
+    by stage.Acquired e is h = absurd (true≢false (sym busy ∙ ap releases_at e))
+    by stage.Refused e is h = absurd (true≢false (sym busy ∙ ap releases_at e))
+    by stage.Look e is h = absurd (true≢false (sym busy ∙ ap releases_at e))
+    by stage.Try e is h = absurd (true≢false (sym busy ∙ ap releases_at e))
+    by stage.Pause e is h = absurd (true≢false (sym busy ∙ ap releases_at e))
+    by stage.Mark e is h = absurd (true≢false (sym busy ∙ ap releases_at e))
+    by stage.Sleep e is h = absurd (true≢false (sym busy ∙ ap releases_at e))
+    by stage.Withdraw e is h = absurd (true≢false (sym busy ∙ ap releases_at e))
+    by stage.Leave e is h = absurd (true≢false (sym busy ∙ ap releases_at e))
+    by stage.WakeRefused e is h = absurd (true≢false (sym busy ∙ ap releases_at e))
+    by stage.WakeAcquired e is h = absurd (true≢false (sym busy ∙ ap releases_at e))
     by stage.LookToRemove e is h = let x = is.2 in cc
     by stage.Subtract e is h = let x = is.2 in cc
     by stage.Release e is h = let x = is.2 in cc

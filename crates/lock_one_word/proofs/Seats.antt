@@ -16,13 +16,13 @@ use Rattle.lock_word.specs.Word.{amount, step_of_down}
 use Rattle.lock_word.proofs.Rules.{shows}
 use Rattle.lock_one.specs.declared.action.Action.{Action}
 use Rattle.lock_one.specs.declared.action.Action.TheVariants as action
-use Rattle.lock_one.specs.declared.call.Call.{Call}
-use Rattle.lock_one.specs.declared.park.ParkView.{ParkView}
+use Rattle.lock_one.specs.declared.call.WordCall.{WordCall}
+use Rattle.lock_one.specs.declared.sleep_view.SleepView.{SleepView}
 use Rattle.lock_one.specs.Machine.{core_of, has_turn, has_sleepers}
 use Rattle.lock_one.specs.Runs.{limits_in}
 use Rattle.lock_one.specs.Steps.{made, limits_of, is_step, Keeps}
 use Rattle.lock_one.specs.Stored.{stored_of, word_of_stored, stored_amount}
-use Rattle.lock_one.proofs.Parking.{parties_of, party_of, rule_of, party_at as party_in}
+use Rattle.lock_one.proofs.EachStep.{parties_of, party_of, rule_of, party_at as party_in}
 use Rattle.lock_one.proofs.Runs.{joined}
 use Rattle.lock_one.proofs.Stored.{read_back, stored_again, storing_keeps_words}
 use Rattle.lock_one_word.specs.declared.rule.OneView.{OneView}
@@ -74,16 +74,16 @@ loaded limit id s me kept at = (
       me.0.readers (kept.known id me.0 at) call before task stepping going,
 )
   where
-    again : (ps : List ParkView) (k : ℕ) (p : ParkView) → slice_get ps k ≡ Some p → slice_set ps k p ≡ ps
+    again : (ps : List SleepView) (k : ℕ) (p : SleepView) → slice_get ps k ≡ Some p → slice_set ps k p ≡ ps
     again [] k p h = refl
-    again (q ∷ ps) zero p h = ap (λ (x : ParkView). x ∷ ps) (sym (same q p h))
+    again (q ∷ ps) zero p h = ap (λ (x : SleepView). x ∷ ps) (sym (same q p h))
       where
-        same : (a b : ParkView) → Some a ≡ Some b → a ≡ b
+        same : (a b : SleepView) → Some a ≡ Some b → a ≡ b
         same a b e = cc
     again (q ∷ ps) (suc k) p h = ap (λ xs. q ∷ xs) (again ps k p h)
 
 -- the step of this call leaves the stored word `raw`, and the rule holds
-steps_to : (limit slots id raw : ℕ) (s : Table) (me : Self) (call : Call) (before : Hold) (task : Task) (a : Action) → IsKept limit s → get_elem? s.views id ≡ some me.0
+steps_to : (limit slots id raw : ℕ) (s : Table) (me : Self) (call : WordCall) (before : Hold) (task : Task) (a : Action) → IsKept limit s → get_elem? s.views id ≡ some me.0
     → is_step call.stage ≡ true → IsGoing (call, a) before task me.0 → raw < 2 ^ 37 → word_of_stored raw ≡ made a (word_of_stored (stored_in s))
     → (w : OneView) × (b : Act (Unit {0})) × Valid s.homes me.1 b × IsKept limit (stepped s 0 raw id me.1 w b)
     × Agrees a me (stored_in s) (w, carried_after me.1 b)
@@ -126,7 +126,7 @@ loads limit slots id me s kept same at small = (
 )
 
 -- an exchange, on the stored words
-pub exchanges : (limit slots id : ℕ) (me : Self) (call : Call) (before : Hold) (task : Task) (old new : ℕ) → is_step call.stage ≡ true
+pub exchanges : (limit slots id : ℕ) (me : Self) (call : WordCall) (before : Hold) (task : Task) (old new : ℕ) → is_step call.stage ≡ true
     → IsGoing (call, action.Exchange old new) before task me.0 → old < 2 ^ 37 → new < 2 ^ 37
     → Allows (IsKept limit) slots id me 0 (λ n. either (eqb n (stored_of old)) (stored_of new) n) (Exchanges (step slots 0 (stored_of old) (stored_of new) none) me)
 exchanges limit slots id me call before task old new stepping going old_small new_small s kept same at small =
@@ -177,7 +177,7 @@ same_down down.ToUpgradable = refl
 same_down down.UpgradableToShared = refl
 same_down down.Withdraw = refl
 
-pub subtracts : (limit slots id : ℕ) (me : Self) (call : Call) (before : Hold) (task : Task) (d : Down) → is_step call.stage ≡ true
+pub subtracts : (limit slots id : ℕ) (me : Self) (call : WordCall) (before : Hold) (task : Task) (d : Down) → is_step call.stage ≡ true
     → IsGoing (call, action.Subtract d) before task me.0 → IsTrue (hold_has me.0.held (step_of_down d))
     → Allows (IsKept limit) slots id me 0 (λ n. (n + (2 ^ 64 - stored_amount (2 ^ 64) d)) % 2 ^ 64) (Subtracts (step slots 0 (stored_amount (2 ^ 64) d) 0 none) me)
 subtracts limit slots id me call before task d stepping going has s kept same at small =
@@ -220,7 +220,7 @@ enters limit slots s kept same small =
     )
 
 -- the same, of numbers that equal these
-pub exchanges_as : (limit slots id : ℕ) (me : Self) (call : Call) (before : Hold) (task : Task) (old new first second : ℕ) → is_step call.stage ≡ true
+pub exchanges_as : (limit slots id : ℕ) (me : Self) (call : WordCall) (before : Hold) (task : Task) (old new first second : ℕ) → is_step call.stage ≡ true
     → IsGoing (call, action.Exchange old new) before task me.0 → old < 2 ^ 37 → new < 2 ^ 37 → first ≡ stored_of old → second ≡ stored_of new
     → Allows (IsKept limit) slots id me 0 (λ n. either (eqb n first) second n) (Exchanges (step slots 0 first second none) me)
 exchanges_as limit slots id me call before task old new first second stepping going old_small new_small is_first is_second =
@@ -234,7 +234,7 @@ same_numbers old new first second a b is_first is_second =
     sym (ap (λ n. action.Exchange n (word_of_stored second)) (ap word_of_stored is_first ∙ read_back old a)
     ∙ ap (λ n. action.Exchange old n) (ap word_of_stored is_second ∙ read_back new b))
 
-pub subtracts_as : (limit slots id : ℕ) (me : Self) (call : Call) (before : Hold) (task : Task) (d : Down) (k : ℕ) → is_step call.stage ≡ true
+pub subtracts_as : (limit slots id : ℕ) (me : Self) (call : WordCall) (before : Hold) (task : Task) (d : Down) (k : ℕ) → is_step call.stage ≡ true
     → IsGoing (call, action.Subtract d) before task me.0 → IsTrue (hold_has me.0.held (step_of_down d)) → k ≡ stored_amount (2 ^ 64) d
     → Allows (IsKept limit) slots id me 0 (λ n. (n + (2 ^ 64 - k)) % 2 ^ 64) (Subtracts (step slots 0 k 0 none) me)
 subtracts_as limit slots id me call before task d k stepping going has is =

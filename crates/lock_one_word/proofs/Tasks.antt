@@ -2,11 +2,11 @@
 use Rattle.std.proofs.Common.{◌≡◌, ℕ, ◌+◌, Bool, true, false, not, ◌&&◌, ◌||◌, ◌==◌, nat_lt, if◌then◌else◌, refl}
 use Rattle.std.proofs.lemmas.Bool.{false≢true}
 use Rattle.lock_one.specs.declared.action.Action.TheVariants as action
-use Rattle.lock_one.specs.declared.call.Call.{Call}
+use Rattle.lock_one.specs.declared.call.WordCall.{WordCall}
 use Rattle.lock_one.specs.declared.stage.Stage.{Stage}
 use Rattle.lock_one.specs.declared.stage.Stage.TheVariants as stage
-use Rattle.lock_one.specs.declared.park.Debt.{Debt}
-use Rattle.lock_one.specs.declared.park.Debt.TheVariants as debt
+use Rattle.lock_one.specs.declared.sleep_view.Debt.{Debt}
+use Rattle.lock_one.specs.declared.sleep_view.Debt.TheVariants as debt
 use Rattle.lock_one.specs.Machine.{Progress, has_sleepers, admits_word, drops_turn, takes_turn, won, sleepers, wakes_one, has_slept, word_withdrawn, sleep, word_marked, mark_or_sleep, marked, time_out, withdrawn, wait, after_try, decide, release_of, release_on, subtract, release_again, wakes, acquired, refused, goes_to, next_at, next_of}
 use Rattle.lock_one.specs.Steps.{is_step}
 use Rattle.lock_one_word.specs.Seats.{Task, task_of}
@@ -14,20 +14,20 @@ use Rattle.lock_one_word.specs.Seats.{Task, task_of}
 abbrev task : Progress → Task
 task p = task_of p.0
 
-abbrev acquires : Call → Task
+abbrev acquires : WordCall → Task
 acquires call = (call.want, call.down, false)
 
-abbrev released_by : Call → Task
+abbrev released_by : WordCall → Task
 released_by call = (call.want, call.down, true)
 
-waits : (call : Call) → task (mark_or_sleep call) ≡ acquires call
+waits : (call : WordCall) → task (mark_or_sleep call) ≡ acquires call
 waits call = by (word_marked call == call.loaded)
   where
     by : (b : Bool) → task (if b then sleep call else goes_to (record call { left = word_marked call }) stage.Mark (action.Exchange call.loaded (word_marked call))) ≡ acquires call
     by true = refl
     by false = refl
 
-times_out : (call : Call) → task (time_out call) ≡ acquires call
+times_out : (call : WordCall) → task (time_out call) ≡ acquires call
 times_out call = by (call.announced || drops_turn call) (wakes_one call && (has_slept call && nat_lt call.loaded sleepers))
   where
     by : (b c : Bool) → task (if b then goes_to (record call { left = word_withdrawn call }) stage.Withdraw (action.Exchange call.loaded (word_withdrawn call))
@@ -36,7 +36,7 @@ times_out call = by (call.announced || drops_turn call) (wakes_one call && (has_
     by false true = refl
     by false false = refl
 
-rests : (call : Call) → task (wait call) ≡ acquires call
+rests : (call : WordCall) → task (wait call) ≡ acquires call
 rests call = by call.blocks call.late (nat_lt call.pauses 6)
   where
     by : (b c d : Bool) → task (if not b then refused call else if c then time_out call
@@ -46,28 +46,28 @@ rests call = by call.blocks call.late (nat_lt call.pauses 6)
     by true false true = refl
     by true false false = waits call
 
-decides : (word : ℕ) (call : Call) → task (decide word call) ≡ acquires call
+decides : (word : ℕ) (call : WordCall) → task (decide word call) ≡ acquires call
 decides word call = by (admits_word call.announced call.readers word call.want)
   where
     by : (b : Bool) → task (if b then goes_to (record call { loaded = word; left = after_try call word }) stage.Try (action.Exchange word (after_try call word)) else wait (record call { loaded = word })) ≡ acquires call
     by true = refl
     by false = rests (record call { loaded = word })
 
-wakes_up : (d : Debt) (call : Call) → task (wakes d call) ≡ released_by call
+wakes_up : (d : Debt) (call : WordCall) → task (wakes d call) ≡ released_by call
 wakes_up debt.Nothing call = refl
 wakes_up debt.One call = refl
 wakes_up debt.All call = refl
 wakes_up debt.Next call = refl
 wakes_up debt.Turn call = refl
 
-wins : (call : Call) → task (won call) ≡ acquires call
+wins : (call : WordCall) → task (won call) ≡ acquires call
 wins call = by (takes_turn call call.loaded && has_sleepers call.loaded)
   where
     by : (b : Bool) → task (if b then goes_to call stage.WakeAcquired action.WakeAll else acquired call) ≡ acquires call
     by true = refl
     by false = refl
 
-withdraws : (call : Call) → task (withdrawn call) ≡ acquires call
+withdraws : (call : WordCall) → task (withdrawn call) ≡ acquires call
 withdraws call = by (has_sleepers call.loaded && not (wakes_one call))
   where
     by : (b : Bool) → task (if b then goes_to (record call { announced = false; turned = false }) stage.WakeRefused action.WakeAll else refused (record call { announced = false; turned = false })) ≡ acquires call
@@ -99,7 +99,7 @@ goes_on stage.Acquired h = absurd (false≢true h)
 goes_on stage.Refused h = absurd (false≢true h)
 goes_on stage.Ended h = absurd (false≢true h)
 
-module _ (found : ℕ) (call : Call) where
+module _ (found : ℕ) (call : WordCall) where
   either : (b : Bool) (next : Progress) → task next ≡ acquires call → task (if b then next else decide found call) ≡ acquires call
   either true next e = e
   either false next e = decides found call

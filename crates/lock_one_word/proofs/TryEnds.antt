@@ -8,7 +8,7 @@ use Rattle.lock_word.specs.Unblocking.{is_awaited}
 use Rattle.lock_word.specs.Word.{step_of_want}
 use Rattle.lock_one.specs.declared.action.Action.{Action}
 use Rattle.lock_one.specs.declared.action.Action.TheVariants as action
-use Rattle.lock_one.specs.declared.call.Call.{Call}
+use Rattle.lock_one.specs.declared.call.WordCall.{WordCall}
 use Rattle.lock_one.specs.declared.stage.Stage.TheVariants as stage
 use Rattle.lock_one.specs.Machine.{Progress, has_sleepers, admits_word, takes_turn, after_try, won, decide, wait, acquired, goes_to, next_at, next_of}
 use Rattle.lock_one.proofs.Actions.{on_word}
@@ -18,17 +18,17 @@ use Rattle.lock_one_word.specs.Seats.{placed, Task, to_acquire, IsGoing}
 use Rattle.lock_one_word.specs.Drives.{Pending, at, IsTrying, HasWoken, is_tried, is_exchange, says_yes}
 use Rattle.lock_one_word.proofs.Rests.{rests, acquired_end, refused_end}
 
-rest_tries : (call : Call) → call.blocks ≡ false → IsTrying (wait call)
+rest_tries : (call : WordCall) → call.blocks ≡ false → IsTrying (wait call)
 rest_tries call never = rw never record { tries = refl; stage = inr (inr (inl refl)) }
 
-decide_tries : (word : ℕ) (call : Call) → call.blocks ≡ false → IsTrying (decide word call)
+decide_tries : (word : ℕ) (call : WordCall) → call.blocks ≡ false → IsTrying (decide word call)
 decide_tries word call never = by (admits_word call.announced call.readers word call.want)
   where
     by : (b : Bool) → IsTrying (if b then goes_to (record call { loaded = word; left = after_try call word }) stage.Try (action.Exchange word (after_try call word)) else wait (record call { loaded = word }))
     by true = record { tries = never; stage = inl refl }
     by false = rest_tries (record call { loaded = word }) never
 
-try_tries : (found : ℕ) (call : Call) → call.blocks ≡ false → IsTrying (next_at stage.Try found call)
+try_tries : (found : ℕ) (call : WordCall) → call.blocks ≡ false → IsTrying (next_at stage.Try found call)
 try_tries found call never = by (found == call.loaded)
   where
     by : (b : Bool) → IsTrying (if b then won call else decide found call)
@@ -40,10 +40,10 @@ try_tries found call never = by (found == call.loaded)
     by false = decide_tries found call never
 
 -- a try after its load
-pub looks : (found : ℕ) (call : Call) → call.blocks ≡ false → call.stage ≡ stage.Look → IsTrying (next_of found call)
+pub looks : (found : ℕ) (call : WordCall) → call.blocks ≡ false → call.stage ≡ stage.Look → IsTrying (next_of found call)
 looks found call never at = subst (λ st. IsTrying (next_at st found call)) (sym at) (decide_tries found call never)
 
-at_try : (call : Call) (a : Action) (v : OneView) (before : Hold) (task : Task) → ends a ≡ false → is_tried a ≡ true → IsGoing (call, a) before task v → IsTrying (call, a) → call.stage ≡ stage.Try
+at_try : (call : WordCall) (a : Action) (v : OneView) (before : Hold) (task : Task) → ends a ≡ false → is_tried a ≡ true → IsGoing (call, a) before task v → IsTrying (call, a) → call.stage ≡ stage.Try
 at_try call a v before task on tried going trying =
     elim trying.stage [
       | inl tries ↦ tries
@@ -59,7 +59,7 @@ at_try call a v before task on tried going trying =
     ]
 
 -- a try after an exchange
-pub tries_again : (found old new : ℕ) (call : Call) (v : OneView) (before : Hold) (task : Task) → IsGoing (call, action.Exchange old new) before task v
+pub tries_again : (found old new : ℕ) (call : WordCall) (v : OneView) (before : Hold) (task : Task) → IsGoing (call, action.Exchange old new) before task v
     → IsTrying (call, action.Exchange old new) → IsTrying (next_of found call)
 tries_again found old new call v before task going trying =
     subst (λ st. IsTrying (next_at st found call)) (sym (at_try call (action.Exchange old new) v before task refl refl going trying)) (try_tries found call trying.tries)
@@ -106,7 +106,7 @@ owes_nothing p never before task v going trying none = (
 )
 
 -- a try that has not acquired has changed nothing
-pub leaves_all : (call : Call) (a : Action) (v : OneView) (before : Hold) (task : Task) → before.announced ≡ false → IsGoing (call, a) before task v → IsTrying (call, a)
+pub leaves_all : (call : WordCall) (a : Action) (v : OneView) (before : Hold) (task : Task) → before.announced ≡ false → IsGoing (call, a) before task v → IsTrying (call, a)
     → is_tried a ≡ true → says_yes a ≡ false → v.held ≡ before
 leaves_all call a v before task clean going trying asks off =
     elim trying.stage [
@@ -134,7 +134,7 @@ yes_ends (action.Exchange x y) t h = absurd (false≢true h)
 yes_ends (action.End b) t h = ap (λ x. action.End x) h
 yes_ends other t h = absurd (false≢true t)
 
-pub tried : (call : Call) (a : Action) (v : OneView) (before : Hold) (wish : ExWant) → before.announced ≡ false → IsTrue (is_awaited wish)
+pub tried : (call : WordCall) (a : Action) (v : OneView) (before : Hold) (wish : ExWant) → before.announced ≡ false → IsTrue (is_awaited wish)
     → IsGoing (call, a) before (to_acquire wish) v → IsTrying (call, a) → is_tried a ≡ true → (b : Bool) → b ≡ says_yes a
     → v.held ≡ (if b then hold_after before (step_of_want wish) else before)
 tried call a v before wish clean awaited going trying asks true e =
@@ -145,7 +145,7 @@ pub no_exchange : (a : Action) → ((x y : ℕ) → a ≡ action.Exchange x y �
 no_exchange action.Load not = refl
 no_exchange (action.Exchange x y) not = absurd (not x y refl)
 no_exchange (action.Subtract d) not = refl
-no_exchange (action.Park n c b) not = refl
+no_exchange (action.Sleep n c b) not = refl
 no_exchange action.WakeOne not = refl
 no_exchange action.WakeAll not = refl
 no_exchange action.WakeNext not = refl
@@ -159,7 +159,7 @@ pub asks_end : (a : Action) → is_tried a ≡ true → is_exchange a ≡ false 
 asks_end action.Load t off = absurd (false≢true t)
 asks_end (action.Exchange x y) t off = absurd (true≢false off)
 asks_end (action.Subtract d) t off = absurd (false≢true t)
-asks_end (action.Park n c b) t off = absurd (false≢true t)
+asks_end (action.Sleep n c b) t off = absurd (false≢true t)
 asks_end action.WakeOne t off = absurd (false≢true t)
 asks_end action.WakeAll t off = absurd (false≢true t)
 asks_end action.WakeNext t off = absurd (false≢true t)

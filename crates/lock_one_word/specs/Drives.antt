@@ -8,7 +8,7 @@ use Rattle.lock_word.specs.declared.down.Down.{Down}
 use Rattle.lock_word.specs.Word.{step_of_want, step_of_down, word_admits, word_after}
 use Rattle.lock_one.specs.declared.action.Action.{Action}
 use Rattle.lock_one.specs.declared.action.Action.TheVariants.{Load, Exchange, Subtract, WakeOne, WakeAll, WakeNext, WakeTurn, End}
-use Rattle.lock_one.specs.declared.call.Call.{Call}
+use Rattle.lock_one.specs.declared.call.WordCall.{WordCall}
 use Rattle.lock_one.specs.declared.stage.Stage.{Stage}
 use Rattle.lock_one.specs.declared.stage.Stage.TheVariants as stage
 use Rattle.lock_one.specs.Machine.{Progress, acquiring, taking, next_of, turn}
@@ -39,7 +39,7 @@ CanGo next me = (before : Hold) × (task : Task) × IsGoing next before task me.
 
 -- a call, its next action, and how many exchanges it has made
 pub record Pending : Type 0 where
-  pub call : Call
+  pub call : WordCall
   pub action : Action
   pub exchanges : ℕ
 
@@ -70,7 +70,7 @@ Admits l left = (left ≡ word_after l.word l.want) × (l.word < turn) × (word_
 
 -- the party is in a call that asks for this action
 abbrev pub CanMake : Action → Self → Type 0
-CanMake a me = (call : Call) × (before : Hold) × (task : Task) × IsGoing (call, a) before task me.0
+CanMake a me = (call : WordCall) × (before : Hold) × (task : Task) × IsGoing (call, a) before task me.0
 
 -- the end of a call with this answer
 abbrev pub ended_with : Pending → Bool → Ending
@@ -96,10 +96,10 @@ LeadsTo first me last after = (before : Hold) (task : Task) → IsGoing first be
 -- the call has ended with this answer
 abbrev pub EndsWith : Progress → Self → Bool → Self → Type 0
 EndsWith first me answer after =
-    (before : Hold) (task : Task) → IsGoing first before task me.0 → (call : Call) × IsGoing (call, End answer) before task after.0
+    (before : Hold) (task : Task) → IsGoing first before task me.0 → (call : WordCall) × IsGoing (call, End answer) before task after.0
 
 -- the call is late only if its wait has an end
-abbrev pub IsInTime : Bool → Call → Type 0
+abbrev pub IsInTime : Bool → WordCall → Type 0
 IsInTime has_end call = call.late ≡ true → has_end ≡ true
 
 -- the call goes on with the answer of its sleep, which calls it late only if its wait has an end
@@ -163,5 +163,5 @@ rank_at stage.Subtract failed = 2
 rank_at stage.Wake failed = 1
 rank_at other failed = 0
 
-abbrev pub rank : Call → ℕ
+abbrev pub rank : WordCall → ℕ
 rank call = rank_at call.stage call.pauses

@@ -7,7 +7,7 @@ use Rattle.lock_word.specs.declared.down.Down.TheVariants as down
 use Rattle.lock_word.specs.Rule.{WordShows}
 use Rattle.lock_one.specs.declared.action.Action.{Action}
 use Rattle.lock_one.specs.declared.action.Action.TheVariants.{Load, Exchange, Subtract}
-use Rattle.lock_one.specs.declared.call.Call.{Call}
+use Rattle.lock_one.specs.declared.call.WordCall.{WordCall}
 use Rattle.lock_one.specs.Machine.{core_of, next_of}
 use Rattle.lock_one.specs.Steps.{is_step}
 use Rattle.lock_one.specs.Stored.{word_of_stored}
@@ -17,7 +17,7 @@ use Rattle.lock_one_word.specs.Seats.{Self, Task, IsGoing}
 abbrev pub Agrees : Action → Self → ℕ → Self → Type 0
 Agrees a me found after =
     (after.1 ≡ me.1) × (after.0.readers ≡ me.0.readers)
-    × ((call : Call) (before : Hold) (task : Task) → is_step call.stage ≡ true → IsGoing (call, a) before task me.0 → IsGoing (next_of (word_of_stored found) call) before task after.0)
+    × ((call : WordCall) (before : Hold) (task : Task) → is_step call.stage ≡ true → IsGoing (call, a) before task me.0 → IsGoing (next_of (word_of_stored found) call) before task after.0)
 
 abbrev pub Loads : Step (Unit {0}) → Self → ℕ → Self → Type 0
 Loads s me found after =
@@ -38,4 +38,4 @@ Subtracts s me found after = Agrees (Subtract (down_of_amount s.first)) me found
 -- the same, of the word in place of the stored number
 abbrev pub Goes : Action → Self → ℕ → Self → Type 0
 Goes a me word after =
-    (call : Call) (before : Hold) (task : Task) → is_step call.stage ≡ true → IsGoing (call, a) before task me.0 → IsGoing (next_of word call) before task after.0
+    (call : WordCall) (before : Hold) (task : Task) → is_step call.stage ≡ true → IsGoing (call, a) before task me.0 → IsGoing (next_of word call) before task after.0

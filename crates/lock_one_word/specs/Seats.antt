@@ -12,15 +12,14 @@ use Rattle.lock_word.specs.declared.want.ExWant.TheVariants as want
 use Rattle.lock_word.specs.declared.down.Down.{Down}
 use Rattle.lock_word.specs.declared.down.Down.TheVariants as down
 use Rattle.lock_one.specs.declared.action.Action.{Action}
-use Rattle.lock_one.specs.declared.call.Call.{Call}
-use Rattle.lock_one.specs.declared.stage.Stage.{Stage}
-use Rattle.lock_one.specs.declared.stage.Stage.TheVariants as stage
-use Rattle.lock_one.specs.declared.park.ParkView.{ParkView}
-use Rattle.lock_one.specs.declared.park.Park.TheVariants.{Awake}
-use Rattle.lock_one.specs.declared.park.Debt.TheVariants as debt
+use Rattle.lock_one.specs.declared.call.WordCall.{WordCall}
+use Rattle.lock_one.specs.declared.sleep_view.SleepView.{SleepView}
+use Rattle.lock_one.specs.declared.sleep_view.SleepState.TheVariants.{Awake}
+use Rattle.lock_one.specs.declared.sleep_view.Debt.TheVariants as debt
 use Rattle.lock_one.specs.Machine.{Progress}
 use Rattle.lock_one.specs.Runs.{limits_in, debt_at}
 use Rattle.lock_one.specs.Steps.{IsAt, Keeps, hold_at}
+use Rattle.lock_one.specs.Answers.{releases_at}
 use Rattle.lock_one.specs.Stored.{word_of_stored}
 use Rattle.lock_one_word.specs.declared.rule.OneView.{OneView}
 
@@ -28,10 +27,10 @@ abbrev pub newcomer : ℕ → OneView
 newcomer readers = record { held = no_hold; readers = readers }
 
 -- a table sees no sleep and no wake-up: to it, each party is awake and owes nothing
-abbrev pub resting : OneView → ParkView
-resting v = record { held = v.held; park = Awake; debt = debt.Nothing }
+abbrev pub resting : OneView → SleepView
+resting v = record { held = v.held; sleep = Awake; debt = debt.Nothing }
 
-abbrev pub parties_in : List OneView → List ParkView
+abbrev pub parties_in : List OneView → List SleepView
 parties_in views = map resting views
 
 abbrev pub Table : Type 0
@@ -57,24 +56,15 @@ pub record IsKept (limit : ℕ) (s : Table) : Type 0 where
   pub keeps : Keeps (limits_in limit) (word_of_stored (stored_in s)) (parties_in s.views)
 
 -- an awake party with this hold, which owes the wake-up that the action makes
-abbrev pub placed : Hold → Action → ParkView
-placed held a = record { held = held; park = Awake; debt = debt_at a }
-
--- the stages of a call that releases
-abbrev pub releases : Stage → Bool
-releases stage.LookToRemove = true
-releases stage.Subtract = true
-releases stage.Release = true
-releases stage.Wake = true
-releases stage.Ended = true
-releases other = false
+abbrev pub placed : Hold → Action → SleepView
+placed held a = record { held = held; sleep = Awake; debt = debt_at a }
 
 -- what a call acquires, what it releases, and which of both it does
 abbrev pub Task : Type 0
 Task = ExWant × Down × Bool
 
-abbrev pub task_of : Call → Task
-task_of call = (call.want, call.down, releases call.stage)
+abbrev pub task_of : WordCall → Task
+task_of call = (call.want, call.down, releases_at call.stage)
 
 abbrev pub to_acquire : ExWant → Task
 to_acquire wish = (wish, down.Shared, false)

@@ -26,7 +26,7 @@ impl WordLock {
             Action::WakeAll => self.wake_all(pending),
             Action::WakeNext => self.wake_next(pending),
             Action::WakeTurn => self.wake_turn(pending),
-            Action::Park(..) | Action::Spin(_) | Action::Yield | Action::End(_) => return false,
+            Action::Sleep(..) | Action::Spin(_) | Action::Yield | Action::End(_) => return false,
         }
         true
     }
@@ -51,8 +51,8 @@ impl WordLock {
             return None;
         }
         match pending.action() {
-            Action::Park(number, class, is_brief) => {
-                self.park(rt, pending, number, class, is_brief, until)
+            Action::Sleep(number, class, is_brief) => {
+                self.sleep(rt, pending, number, class, is_brief, until)
             }
             Action::Spin(times) => self.spin(pending, times),
             Action::Yield => self.rest(rt, pending, until),

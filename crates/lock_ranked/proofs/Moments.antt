@@ -13,38 +13,38 @@ use Rattle.lock_word.specs.Holders.{all_of}
 use Rattle.lock_word.specs.Word.{word_admits, step_of_want}
 use Rattle.lock_word.specs.Unblocking.{is_awaited}
 use Rattle.lock_word.proofs.Holders.{part_of_all}
-use Rattle.lock_one.specs.declared.park.ParkView.{ParkView}
-use Rattle.lock_one.specs.declared.park.Park.TheVariants.{Asleep}
-use Rattle.lock_one.specs.declared.park.Debt.TheVariants.{Nothing}
+use Rattle.lock_one.specs.declared.sleep_view.SleepView.{SleepView}
+use Rattle.lock_one.specs.declared.sleep_view.SleepState.TheVariants.{Asleep}
+use Rattle.lock_one.specs.declared.sleep_view.Debt.TheVariants.{Nothing}
 use Rattle.lock_one.specs.Machine.{core_of, has_turn}
 use Rattle.lock_one.specs.Rule.{holds_of, admits_to, passes_turn, IsRefused, is_woken, reaches, has_duty, serves}
 use Rattle.lock_one.specs.Runs.{Thread, LockInUse, views_of, limits_in, IsTurnOf, ThreadsAreServed}
 use Rattle.lock_one.proofs.RunViews.{view_in}
-use Rattle.lock_one.proofs.Parking.{mutex_held, mutex_taken, others_admit}
+use Rattle.lock_one.proofs.EachStep.{mutex_held, mutex_taken, others_admit}
 use Rattle.lock_ranked.specs.Moments.{Moment, PartyOf, SleepsFor, HoldsLock, IsPending, IsTurning, IsInOrder, SomeHolderIsAwake}
 
-abbrev tokens_of : ParkView → ℕ
+abbrev tokens_of : SleepView → ℕ
 tokens_of v = tokens v.held.bag
 
-abbrev bar_of : ParkView → ℕ
+abbrev bar_of : SleepView → ℕ
 bar_of v = bars_of v.held.announced
 
 -- a seat with something
-record Found (views : List ParkView) (Has : ParkView → Type 0) : Type 0 where
+record Found (views : List SleepView) (Has : SleepView → Type 0) : Type 0 where
   number : ℕ
-  view : ParkView
+  view : SleepView
   is : slice_get views number ≡ Some view
   has : Has view
 
-later : (views : List ParkView) (v : ParkView) (Has : ParkView → Type 0) → Found views Has → Found (v ∷ views) Has
+later : (views : List SleepView) (v : SleepView) (Has : SleepView → Type 0) → Found views Has → Found (v ∷ views) Has
 later views v Has f = record { number = suc f.number; view = f.view; is = f.is; has = f.has }
 
 -- where all seats together have a token, some seat has one
-found_token : (views : List ParkView) → 0 < tokens (all_of (holds_of views)).bag → Found views (λ v. 0 < tokens_of v)
+found_token : (views : List SleepView) → 0 < tokens (all_of (holds_of views)).bag → Found views (λ v. 0 < tokens_of v)
 found_token [] some = absurd (omega arith)
 found_token (v ∷ views) some = first v views (tokens_of v) refl (λ left. found_token views left) some
   where
-    first : (v : ParkView) (views : List ParkView) (n : ℕ) → tokens_of v ≡ n
+    first : (v : SleepView) (views : List SleepView) (n : ℕ) → tokens_of v ≡ n
         → (0 < tokens (all_of (holds_of views)).bag → Found views (λ v. 0 < tokens_of v))
         → 0 < tokens (all_of (holds_of (v ∷ views))).bag → Found (v ∷ views) (λ v. 0 < tokens_of v)
     first v views zero none rest some =
@@ -56,11 +56,11 @@ found_token (v ∷ views) some = first v views (tokens_of v) refl (λ left. foun
     first v views (suc n) is rest some = record { number = 0; view = v; is = refl; has = omega arith }
 
 -- where all seats together have a bar, some seat has announced itself
-found_bar : (views : List ParkView) → 0 < (all_of (holds_of views)).bars → Found views (λ v. v.held.announced ≡ true)
+found_bar : (views : List SleepView) → 0 < (all_of (holds_of views)).bars → Found views (λ v. v.held.announced ≡ true)
 found_bar [] some = absurd (omega arith)
 found_bar (v ∷ views) some = first v views v.held.announced refl (λ left. found_bar views left) some
   where
-    first : (v : ParkView) (views : List ParkView) (b : Bool) → v.held.announced ≡ b
+    first : (v : SleepView) (views : List SleepView) (b : Bool) → v.held.announced ≡ b
         → (0 < (all_of (holds_of views)).bars → Found views (λ v. v.held.announced ≡ true))
         → 0 < (all_of (holds_of (v ∷ views))).bars → Found (v ∷ views) (λ v. v.held.announced ≡ true)
     first v views true is rest some = record { number = 0; view = v; is = refl; has = is }
@@ -90,28 +90,28 @@ upgrades_own own want is entitled =
     ltb-true 0 own.bag.upgradable has
 
 -- where no wake-up is owed, and no woken thread has yet to look, the word refuses each sleeper
-none_serves : (readers : ℕ) (server v : ParkView) (want : ExWant) → server.debt ≡ Nothing → is_woken server.park ≡ false → serves (limits_in readers) server v want ≡ false
+none_serves : (readers : ℕ) (server v : SleepView) (want : ExWant) → server.debt ≡ Nothing → is_woken server.sleep ≡ false → serves (limits_in readers) server v want ≡ false
 none_serves readers server v want owes awake =
     ap (λ d. reaches (limits_in readers) d v want || (has_duty (limits_in readers) server && not v.held.announced)) owes
     ∙ ap (λ b. b && not v.held.announced) (by (readers == 1) awake)
   where
-    by : (b : Bool) → is_woken server.park ≡ false → (b && is_woken server.park) ≡ false
+    by : (b : Bool) → is_woken server.sleep ≡ false → (b && is_woken server.sleep) ≡ false
     by true e = e
     by false e = refl
 
 module _ (s : LockInUse) (served : ThreadsAreServed s)
-    (rests : (k : ℕ) (v : ParkView) → slice_get (views_of s.threads) k ≡ Some v → (v.debt ≡ Nothing) × (is_woken v.park ≡ false))
-    (pending : (k : ℕ) (v : ParkView) → slice_get (views_of s.threads) k ≡ Some v → v.held.announced ≡ true → v.park ≡ Asleep Exclusive)
-    (turning : (k : ℕ) (t : Thread) → slice_get s.threads k ≡ Some t → IsTurnOf t → t.view.park ≡ Asleep Shared)
-    (k : ℕ) (v : ParkView) (want : ExWant) (at : slice_get (views_of s.threads) k ≡ Some v) (sleeps : v.park ≡ Asleep want) where
-  abbrev views : List ParkView
+    (rests : (k : ℕ) (v : SleepView) → slice_get (views_of s.threads) k ≡ Some v → (v.debt ≡ Nothing) × (is_woken v.sleep ≡ false))
+    (pending : (k : ℕ) (v : SleepView) → slice_get (views_of s.threads) k ≡ Some v → v.held.announced ≡ true → v.sleep ≡ Asleep Exclusive)
+    (turning : (k : ℕ) (t : Thread) → slice_get s.threads k ≡ Some t → IsTurnOf t → t.view.sleep ≡ Asleep Shared)
+    (k : ℕ) (v : SleepView) (want : ExWant) (at : slice_get (views_of s.threads) k ≡ Some v) (sleeps : v.sleep ≡ Asleep want) where
+  abbrev views : List SleepView
   views = views_of s.threads
 
   abbrev word : ℕ
   word = core_of s.word
 
   -- the core refuses each sleeper, or T does
-  refuses_or_turns : (j : ℕ) (w : ParkView) (wish : ExWant) → slice_get views j ≡ Some w → w.park ≡ Asleep wish → IsRefused (limits_in s.readers) word (has_turn s.word) w wish
+  refuses_or_turns : (j : ℕ) (w : SleepView) (wish : ExWant) → slice_get views j ≡ Some w → w.sleep ≡ Asleep wish → IsRefused (limits_in s.readers) word (has_turn s.word) w wish
   refuses_or_turns j w wish is asleep =
       elim (served.none_forgotten j w wish is asleep) [
         | inl set ↦ set.1
@@ -121,22 +121,22 @@ module _ (s : LockInUse) (served : ThreadsAreServed s)
       ]
 
   -- the core refuses those that T lets pass
-  refuses : (j : ℕ) (w : ParkView) (wish : ExWant) → slice_get views j ≡ Some w → w.park ≡ Asleep wish → passes_turn w.held.announced wish ≡ true
+  refuses : (j : ℕ) (w : SleepView) (wish : ExWant) → slice_get views j ≡ Some w → w.sleep ≡ Asleep wish → passes_turn w.held.announced wish ≡ true
       → admits_to (limits_in s.readers) word w wish ≡ false
   refuses j w wish is asleep passes =
       elim (refuses_or_turns j w wish is asleep) [ inl core ↦ core | inr turn ↦ absurd (false≢true (sym turn.1 ∙ passes)) ]
 
   -- in a lock for several readers, the word refuses each of them
-  word_refuses : (s.readers == 1) ≡ false → (j : ℕ) (w : ParkView) (wish : ExWant) → slice_get views j ≡ Some w → w.park ≡ Asleep wish
+  word_refuses : (s.readers == 1) ≡ false → (j : ℕ) (w : SleepView) (wish : ExWant) → slice_get views j ≡ Some w → w.sleep ≡ Asleep wish
       → passes_turn w.held.announced wish ≡ true → word_admits w.held.announced s.readers word wish ≡ false
   word_refuses many j w wish is asleep passes = sym (others_admit (limits_in s.readers) word w wish many) ∙ refuses j w wish is asleep passes
 
-  own_part : (j : ℕ) (w : ParkView) → slice_get views j ≡ Some w → slice_get (holds_of views) j ≡ Some w.held
-  own_part j w is = rw (slice_get-map (λ (x : ParkView). x.held) views j, is)
+  own_part : (j : ℕ) (w : SleepView) → slice_get views j ≡ Some w → slice_get (holds_of views) j ≡ Some w.held
+  own_part j w is = rw (slice_get-map (λ (x : SleepView). x.held) views j, is)
 
   -- the core of a free word refuses no sleeper
   not_refused : (all_of (holds_of views)).bars ≡ 0 → tokens (all_of (holds_of views)).bag ≡ 0
-      → (j : ℕ) (w : ParkView) (wish : ExWant) → slice_get views j ≡ Some w → w.park ≡ Asleep wish → admits_to (limits_in s.readers) word w wish ≡ false → ⊥
+      → (j : ℕ) (w : SleepView) (wish : ExWant) → slice_get views j ≡ Some w → w.sleep ≡ Asleep wish → admits_to (limits_in s.readers) word w wish ≡ false → ⊥
   not_refused none empty j w wish is asleep core =
       let coded = served.coded in
       let free : word ≡ 0 = omega arith in
@@ -189,16 +189,16 @@ module _ (s : LockInUse) (served : ThreadsAreServed s)
 
 module _ (top : ℕ) (m : Moment) (o : IsInOrder top m)
     (all : (thread lock : ℕ) → HoldsLock m thread lock ⊎ (IsPending m thread lock ⊎ IsTurning m thread lock) → (wanted : ℕ) × SleepsFor m thread wanted) where
-  abbrev party_at : (lock k : ℕ) (v : ParkView) → slice_get (views_of (m.lock lock).threads) k ≡ Some v → PartyOf m (m.thread lock k) lock
+  abbrev party_at : (lock k : ℕ) (v : SleepView) → slice_get (views_of (m.lock lock).threads) k ≡ Some v → PartyOf m (m.thread lock k) lock
   party_at lock k v at = record { number = k; view = v; is = at; own = refl }
 
-  writer_sleeps : (lock k : ℕ) (v : ParkView) → slice_get (views_of (m.lock lock).threads) k ≡ Some v → v.held.announced ≡ true → v.park ≡ Asleep Exclusive
+  writer_sleeps : (lock k : ℕ) (v : SleepView) → slice_get (views_of (m.lock lock).threads) k ≡ Some v → v.held.announced ≡ true → v.sleep ≡ Asleep Exclusive
   writer_sleeps lock k v at is =
       let writer : IsPending m (m.thread lock k) lock = record { party = party_at lock k v at; announced = is } in
       let next = all (m.thread lock k) lock (inr (inl writer)) in
       o.pending (m.thread lock k) lock next.0 writer next.1
 
-  reader_sleeps : (lock k : ℕ) (t : Thread) → slice_get (m.lock lock).threads k ≡ Some t → IsTurnOf t → t.view.park ≡ Asleep Shared
+  reader_sleeps : (lock k : ℕ) (t : Thread) → slice_get (m.lock lock).threads k ≡ Some t → IsTurnOf t → t.view.sleep ≡ Asleep Shared
   reader_sleeps lock k t at turns =
       let reader : IsTurning m (m.thread lock k) lock = record { number = k; party = t; is = at; own = refl; turns = turns } in
       let next = all (m.thread lock k) lock (inr (inr reader)) in

@@ -20,4 +20,4 @@ pub use occupancy::{Occupancy, unblocks};
 pub use party::WorldParty;
 pub use step::{AtomicStep, Outcome};
 pub use want::ExWant;
-pub use word::{has_bar, has_exclusive, has_tokens, with_bar};
+pub use word::{BAR, EXCLUSIVE, UPGRADABLE, has_bar, has_exclusive, has_tokens, with_bar};

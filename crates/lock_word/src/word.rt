@@ -5,13 +5,13 @@ ghost use Rattle.lock_word.specs.BarredBags.{is_barred};
 ghost use Rattle.lock_word.specs.Word.{bag_of_word, barred_bag_of_word, word_with_bar};
 
 /// What an upgradable hold adds to the word, besides counting as a reader.
-pub(crate) const UPGRADABLE: u64 = 4_294_967_296;
+pub const UPGRADABLE: u64 = 4_294_967_296;
 
 /// What an exclusive hold adds to the word.
-pub(crate) const EXCLUSIVE: u64 = 8_589_934_592;
+pub const EXCLUSIVE: u64 = 8_589_934_592;
 
 /// What the bar adds to the word.
-pub(crate) const BAR: u64 = 17_179_869_184;
+pub const BAR: u64 = 17_179_869_184;
 
 /// Returns whether the word has a holder.
 pub fn has_tokens(word: u64) -> bool

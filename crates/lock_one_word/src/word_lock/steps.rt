@@ -1,6 +1,6 @@
 //! The actions of a call, made on the word. Only these functions go on with a call.
 ghost use Rattle.std.specs.Prelude.{◌≡◌, ◌+◌, ◌-◌, ◌<◌, ◌^◌, true};
-ghost use Rattle.lock_one.specs.declared.action.Action.TheVariants.{Load, Exchange, Subtract, Park, WakeOne, WakeAll, WakeNext, WakeTurn, Spin, Yield};
+ghost use Rattle.lock_one.specs.declared.action.Action.TheVariants.{Load, Exchange, Subtract, Sleep, WakeOne, WakeAll, WakeNext, WakeTurn, Spin, Yield};
 ghost use Rattle.lock_one.specs.declared.action.Sleeper.{Sleeper};
 ghost use Rattle.lock_one.specs.Machine.{next_of};
 ghost use Rattle.lock_one_word.specs.Drives.{at, CanGo, GoesOn, HasRested};
@@ -73,7 +73,7 @@ impl WordLock {
     }
 
     /// Sleeps while the word is this number, or until the wait is over, or the time of a brief sleep.
-    pub(crate) fn park<R: Wait, U: Until<R>>(
+    pub(crate) fn sleep<R: Wait, U: Until<R>>(
         &self,
         rt: &R,
         pending: &mut Pending,
@@ -82,17 +82,17 @@ impl WordLock {
         is_brief: bool,
         until: &U,
     )
-        requires { pending.old.action ≡ Park number class is_brief }
+        requires { pending.old.action ≡ Sleep number class is_brief }
         ensures { HasRested U.has_end pending.old pending.new }
     {
-        self.sleep(rt, number, until.left(rt).at_most(is_brief));
+        self.sleep_while(rt, number, until.left(rt).at_most(is_brief));
         let is_late = until.is_over(rt);
         let found = answer_of_sleep(is_late, self.has_lasted(number, is_brief));
         pending.go_on(found);
     }
 
     /// Sleeps while the word is this number, for the time that is left.
-    fn sleep<R: Wait>(&self, rt: &R, number: u64, left: Left) {
+    fn sleep_while<R: Wait>(&self, rt: &R, number: u64, left: Left) {
         let expected = (to_stored(number) % 4_294_967_296) as u32;
         match left {
             Left::Endless => self.table.shared.park(rt, 0, expected),

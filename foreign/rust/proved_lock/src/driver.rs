@@ -68,8 +68,8 @@ pub(crate) enum Code {
     Exchange,
     Subtract,
     Or,
-    Park,
-    ParkNext,
+    Sleep,
+    SleepNext,
     WakeOne,
     WakeAll,
     WakeNext,
@@ -79,7 +79,7 @@ pub(crate) enum Code {
     Done,
     Unlock,
     Lock,
-    ParkReader,
+    SleepReader,
     WakeTurn,
 }
 
@@ -221,7 +221,7 @@ fn futex(word: *mut u32, operation: c_int, number: u32, deadline: Option<&Timesp
 }
 
 /// Sleeps while the word is the number. Returns the answer to the step.
-fn park(word: *mut u32, number: u32, is_brief: bool, bits: u32, deadline: Option<&Timespec>) -> u32 {
+fn sleep_on(word: *mut u32, number: u32, is_brief: bool, bits: u32, deadline: Option<&Timespec>) -> u32 {
     let brief = is_brief.then(Timespec::after_brief_sleep).filter(|end| deadline.is_none_or(|it| end < it));
     let answer = if brief.is_some() { IS_OVER } else { IS_LATE };
     let is_over = futex(word, WAIT_BITSET_PRIVATE, number, brief.as_ref().or(deadline), bits);
@@ -240,9 +240,9 @@ fn wake(word: *mut u32, threads: u32, bits: u32) {
 /// Makes a step that does not access the word at this address, and returns its answer.
 fn make_other(word: *mut u32, action: Code, number: u32, is_brief: bool, deadline: Option<&Timespec>) -> u32 {
     match action {
-        Code::Park => return park(word, number, is_brief, PLAIN, deadline),
-        Code::ParkNext => return park(word, number, is_brief, NEXT, deadline),
-        Code::ParkReader => return park(word, number, is_brief, READER, deadline),
+        Code::Sleep => return sleep_on(word, number, is_brief, PLAIN, deadline),
+        Code::SleepNext => return sleep_on(word, number, is_brief, NEXT, deadline),
+        Code::SleepReader => return sleep_on(word, number, is_brief, READER, deadline),
         Code::WakeOne => wake(word, 1, ANY),
         Code::WakeAll => wake(word, ALL, ANY),
         Code::WakeNext => wake(word, ALL, NEXT),
@@ -361,9 +361,9 @@ mod recorded {
     /// Whether a deadline ended the call.
     pub(super) fn futex(word: *mut u32, operation: c_int, number: u32, bits: u32) -> bool {
         let (code, first) = match (operation, number, bits) {
-            (WAIT_BITSET_PRIVATE, _, PLAIN) => (Code::Park, number),
-            (WAIT_BITSET_PRIVATE, _, NEXT) => (Code::ParkNext, number),
-            (WAIT_BITSET_PRIVATE, _, READER) => (Code::ParkReader, number),
+            (WAIT_BITSET_PRIVATE, _, PLAIN) => (Code::Sleep, number),
+            (WAIT_BITSET_PRIVATE, _, NEXT) => (Code::SleepNext, number),
+            (WAIT_BITSET_PRIVATE, _, READER) => (Code::SleepReader, number),
             (WAKE_BITSET_PRIVATE, 1, ANY) => (Code::WakeOne, 0),
             (WAKE_BITSET_PRIVATE, ALL, ANY) => (Code::WakeAll, 0),
             (WAKE_BITSET_PRIVATE, ALL, NEXT) => (Code::WakeNext, 0),

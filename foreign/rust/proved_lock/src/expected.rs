@@ -80,8 +80,8 @@ pub(crate) fn run<S: Step>(
     let (most, mut others, mut accesses, mut word) = (others.len() + MOST, others.iter(), Vec::new(), 0);
     loop {
         let (code, first, second) = step.parts();
-        let is_park = matches!(code, Code::Park | Code::ParkNext | Code::ParkReader);
-        let is_access = is_park || matches!(code, Code::Load | Code::Exchange | Code::Subtract | Code::Or);
+        let is_sleep = matches!(code, Code::Sleep | Code::SleepNext | Code::SleepReader);
+        let is_access = is_sleep || matches!(code, Code::Load | Code::Exchange | Code::Subtract | Code::Or);
         if is_access {
             word = others.next().map_or(word, |number| number & S::MAX);
         }
@@ -90,7 +90,7 @@ pub(crate) fn run<S: Step>(
             Code::Spin | Code::Yield => None,
             Code::Unlock => Some((1, Code::Exchange, EXCLUSIVE.into(), 0)),
             Code::Lock => Some((1, Code::Exchange, 0, EXCLUSIVE.into())),
-            _ => Some((0, code, first, if is_park { 0 } else { second })),
+            _ => Some((0, code, first, if is_sleep { 0 } else { second })),
         };
         if access.is_some() && accesses.len() == most {
             return (None, accesses, word);
@@ -103,7 +103,7 @@ pub(crate) fn run<S: Step>(
             Code::Exchange => found,
             Code::Subtract => core::mem::replace(&mut word, found.wrapping_sub(first) & S::MAX),
             Code::Or => core::mem::replace(&mut word, found | first),
-            _ if is_park && found & u64::from(u32::MAX) == first => IS_LATE.into(),
+            _ if is_sleep && found & u64::from(u32::MAX) == first => IS_LATE.into(),
             Code::Yield if has_deadline => IS_LATE.into(),
             _ => 0,
         });

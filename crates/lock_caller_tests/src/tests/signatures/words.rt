@@ -1,7 +1,7 @@
 //! Every public type of the packed word, and of the locks on one, in a signature.
 use lock_api::model::{
-    Action, AtomicStep, Debt, Hold, LockStep, Outcome, PackedToken, PackedWord, Park, ParkLimits,
-    ParkView, Place, Places, Stage, WordCall, World, WorldParty,
+    Action, AtomicStep, Debt, Hold, LockStep, Outcome, PackedToken, PackedWord, Place, Places,
+    SleepState, SleepView, Stage, WordCall, WordLimits, World, WorldParty,
 };
 use lock_api::raw::{
     Attempt, Begun, CountRule, Down, EventCount, ExWant, MonitorWake, NoTime, Notified, Occupancy,
@@ -35,6 +35,6 @@ pub fn words(
     _seated: (&SeatedLock, &Party, &SeatView, &WordRule, &Attempt),
     _seats: (&OneView, &OneRule),
     _machine: (&WordCall, &Action, &Stage),
-    _parking: (&ParkView, &Park, &Debt, &ParkLimits),
+    _sleeping: (&SleepView, &SleepState, &Debt, &WordLimits),
     _events: (&EventCount, &Registered, &Notified, &Begun, &CountRule),
 ) {}

@@ -6,7 +6,7 @@ ghost use Rattle.lock_one.specs.Machine.{acquiring, next_of, taking};
 ghost use Rattle.lock_one_word.specs.Drives.{at, ended_with, says_yes, MayEnd};
 
 use crate::word_lock::steps::ended::Ended;
-use lock_one::{Action, Call};
+use lock_one::{Action, WordCall};
 use lock_word::{Down, ExWant};
 use std::marker::Model;
 
@@ -15,7 +15,7 @@ use std::marker::Model;
 /// It has no `Drop`, so a body cannot forget a call whose next action is a wake-up. Only the functions that make an action pass
 /// it on, and it ends with the call.
 pub(crate) struct Pending {
-    call: Call,
+    call: WordCall,
     action: Action,
     /// How many exchanges the call has made.
     exchanges: u64,
@@ -39,7 +39,7 @@ impl Pending {
         ensures begun { at result ≡ acquiring readers want blocks true }
         ensures fresh { result.exchanges ≡ 0 }
     {
-        let (call, action) = Call::acquire(readers, want, blocks, true);
+        let (call, action) = WordCall::acquire(readers, want, blocks, true);
         Pending {
             call,
             action,
@@ -51,7 +51,7 @@ impl Pending {
     pub(crate) fn release(readers: u64, down: Down) -> Pending
         ensures { at result ≡ taking readers down }
     {
-        let (call, action) = Call::release(readers, down);
+        let (call, action) = WordCall::release(readers, down);
         Pending {
             call,
             action,

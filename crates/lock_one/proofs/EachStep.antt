@@ -20,50 +20,50 @@ use Rattle.lock_word.proofs.Rules.{changed_or_not, slice_set_same, holds_set, ke
 use Rattle.lock_word.proofs.Lists.{placed, other_stays}
 use Rattle.lock_word.proofs.Reached.{packed_word}
 use Rattle.lock_word.proofs.Unblocking.{exchanges_unblock_nobody, unblocks_misses_nobody}
-use Rattle.lock_one.specs.declared.park.ParkLimits.{ParkLimits}
-use Rattle.lock_one.specs.declared.park.ParkView.{ParkView}
-use Rattle.lock_one.specs.declared.park.Park.{Park}
-use Rattle.lock_one.specs.declared.park.Park.TheVariants.{Awake, Asleep, Woken}
-use Rattle.lock_one.specs.declared.park.Debt.{Debt}
-use Rattle.lock_one.specs.declared.park.Debt.TheVariants.{Nothing, One, All, Next, Turn}
-use Rattle.lock_one.specs.Rule.{holds_of, admits_to, is_shared, is_upgrade, passes_turn, IsRefused, is_next, is_in_turn, is_woken, is_asleep, reaches, is_free, has_duty, serves, SomeoneServes, IsServed, NoneIsForgotten, IsEntitled, KeepsParking, with_park, with_debt, wake_park_all, wake_park_of, wake_all, wake_of, new_party}
-use Rattle.lock_one.proofs.Kept.{after_win, after_take, frees, IsPaid, is_unset, is_unneeded, is_barred, is_shared_bar, is_turned, is_all, is_one, EachStepKeeps, StepsKeepParking}
+use Rattle.lock_one.specs.declared.sleep_view.WordLimits.{WordLimits}
+use Rattle.lock_one.specs.declared.sleep_view.SleepView.{SleepView}
+use Rattle.lock_one.specs.declared.sleep_view.SleepState.{SleepState}
+use Rattle.lock_one.specs.declared.sleep_view.SleepState.TheVariants.{Awake, Asleep, Woken}
+use Rattle.lock_one.specs.declared.sleep_view.Debt.{Debt}
+use Rattle.lock_one.specs.declared.sleep_view.Debt.TheVariants.{Nothing, One, All, Next, Turn}
+use Rattle.lock_one.specs.Rule.{holds_of, admits_to, is_shared, is_upgrade, passes_turn, IsRefused, is_next, is_in_turn, is_woken, is_asleep, reaches, is_free, has_duty, serves, SomeoneServes, IsServed, NoneIsForgotten, IsEntitled, KeepsSleepers, with_sleep, with_debt, woken_all, woken_of, wake_all, wake_of, new_party}
+use Rattle.lock_one.proofs.Kept.{after_win, after_take, frees, IsPaid, is_unset, is_unneeded, is_barred, is_shared_bar, is_turned, is_all, is_one, EachStepKeeps, StepsKeepSleepers}
 
 -- lists of views of which one is changed
 
-pub holds_of-set : (views : List ParkView) (k : ℕ) (you : ParkView) → holds_of (slice_set views k you) ≡ slice_set (holds_of views) k you.held
-holds_of-set views k you = map-set (λ (v : ParkView). v.held) views k you
+pub holds_of-set : (views : List SleepView) (k : ℕ) (you : SleepView) → holds_of (slice_set views k you) ≡ slice_set (holds_of views) k you.held
+holds_of-set views k you = map-set (λ (v : SleepView). v.held) views k you
 
-hold_at : (views : List ParkView) (k : ℕ) (me : ParkView) → slice_get views k ≡ Some me → slice_get (holds_of views) k ≡ Some me.held
-hold_at views k me h = rw (slice_get-map (λ (v : ParkView). v.held) views k, h)
+hold_at : (views : List SleepView) (k : ℕ) (me : SleepView) → slice_get views k ≡ Some me → slice_get (holds_of views) k ≡ Some me.held
+hold_at views k me h = rw (slice_get-map (λ (v : SleepView). v.held) views k, h)
 
 -- the party keeps what it holds
-pub same_holds : (views : List ParkView) (k : ℕ) (me you : ParkView) → slice_get views k ≡ Some me → you.held ≡ me.held
+pub same_holds : (views : List SleepView) (k : ℕ) (me you : SleepView) → slice_get views k ≡ Some me → you.held ≡ me.held
     → holds_of (slice_set views k you) ≡ holds_of views
 same_holds views k me you at held =
     holds_of-set views k you
     ∙ (ap (λ b. slice_set (holds_of views) k b) held ∙ slice_set_same (holds_of views) k me.held (hold_at views k me at))
 
 -- parties that have only what they hold
-abbrev pub party_of : ParkView → WorldParty
+abbrev pub party_of : SleepView → WorldParty
 party_of v = record { held = v.held; loaded = None; wins = 0; fails = 0 }
 
-abbrev pub parties_of : List ParkView → List WorldParty
+abbrev pub parties_of : List SleepView → List WorldParty
 parties_of views = map party_of views
 
-pub holds_of_parties : (views : List ParkView) → holds (parties_of views) ≡ holds_of views
+pub holds_of_parties : (views : List SleepView) → holds (parties_of views) ≡ holds_of views
 holds_of_parties [] = refl
 holds_of_parties (v ∷ views) = ap (λ hs. v.held ∷ hs) (holds_of_parties views)
 
-pub party_at : (views : List ParkView) (k : ℕ) (me : ParkView) → slice_get views k ≡ Some me → slice_get (parties_of views) k ≡ Some (party_of me)
+pub party_at : (views : List SleepView) (k : ℕ) (me : SleepView) → slice_get views k ≡ Some me → slice_get (parties_of views) k ≡ Some (party_of me)
 party_at views k me h = rw (slice_get-map party_of views k, h)
 
-no_fails : (views : List ParkView) (k : ℕ) (q : WorldParty) → slice_get (parties_of views) k ≡ Some q → (q.fails ≡ 0) × (q.loaded ≡ None)
+no_fails : (views : List SleepView) (k : ℕ) (q : WorldParty) → slice_get (parties_of views) k ≡ Some q → (q.fails ≡ 0) × (q.loaded ≡ None)
 no_fails [] k q h = cc
 no_fails (v ∷ views) zero q h = let e = same_Some (party_of v) q h in (sym (ap (λ (w : WorldParty). w.fails) e), sym (ap (λ (w : WorldParty). w.loaded) e))
 no_fails (v ∷ views) (suc k) q h = no_fails views k q h
 
-pub rule_of : (limit core : ℕ) (views : List ParkView) → core ≡ word_of (all_of (holds_of views)) → IsLegalBarredBag limit (all_of (holds_of views))
+pub rule_of : (limit core : ℕ) (views : List SleepView) → core ≡ word_of (all_of (holds_of views)) → IsLegalBarredBag limit (all_of (holds_of views))
     → KeepsRule limit core (parties_of views)
 rule_of limit core views coded legal =
     let same = holds_of_parties views in
@@ -77,25 +77,25 @@ rule_of limit core views coded legal =
     }
 
 -- what all hold after a step of one
-pub record Sums (limit core : ℕ) (views : List ParkView) : Type 0 where
+pub record Sums (limit core : ℕ) (views : List SleepView) : Type 0 where
   pub coded : core ≡ word_of (all_of (holds_of views))
   pub legal : IsLegalBarredBag limit (all_of (holds_of views))
 
-pub sums_of : (limit core : ℕ) (ps : List WorldParty) (views : List ParkView) → holds ps ≡ holds_of views → KeepsRule limit core ps → Sums limit core views
+pub sums_of : (limit core : ℕ) (ps : List WorldParty) (views : List SleepView) → holds ps ≡ holds_of views → KeepsRule limit core ps → Sums limit core views
 sums_of limit core ps views same rule =
     record {
       coded = rule.coded ∙ ap (λ hs. word_of (all_of hs)) same;
       legal = subst (λ hs. IsLegalBarredBag limit (all_of hs)) same rule.legal;
     }
 
-sums_same : (limit core : ℕ) (views later : List ParkView) → holds_of later ≡ holds_of views → Sums limit core views → Sums limit core later
+sums_same : (limit core : ℕ) (views later : List SleepView) → holds_of later ≡ holds_of views → Sums limit core views → Sums limit core later
 sums_same limit core views later same sums =
     record {
       coded = sums.coded ∙ ap (λ hs. word_of (all_of hs)) (sym same);
       legal = subst (λ hs. IsLegalBarredBag limit (all_of hs)) (sym same) sums.legal;
     }
 
-set_holds : (views : List ParkView) (k : ℕ) (p : WorldParty) (you : ParkView) → p.held ≡ you.held
+set_holds : (views : List SleepView) (k : ℕ) (p : WorldParty) (you : SleepView) → p.held ≡ you.held
     → holds (slice_set (parties_of views) k p) ≡ holds_of (slice_set views k you)
 set_holds views k p you held =
     holds_set (parties_of views) k p
@@ -115,30 +115,30 @@ no_and b = refl
 
 -- who serves
 
-server_stays : (limits : ParkLimits) (views : List ParkView) (k : ℕ) (you : ParkView) (v : ParkView) (want : ExWant) (someone : SomeoneServes limits views v want)
+server_stays : (limits : WordLimits) (views : List SleepView) (k : ℕ) (you : SleepView) (v : SleepView) (want : ExWant) (someone : SomeoneServes limits views v want)
     → someone.number ≢ k → SomeoneServes limits (slice_set views k you) v want
 server_stays limits views k you v want someone other =
     record { number = someone.number; server = someone.server; is = other_stays views k someone.number you someone.server other someone.is; does = someone.does }
 
-here : (limits : ParkLimits) (views : List ParkView) (k : ℕ) (me you v : ParkView) (want : ExWant) → slice_get views k ≡ Some me
+here : (limits : WordLimits) (views : List SleepView) (k : ℕ) (me you v : SleepView) (want : ExWant) → slice_get views k ≡ Some me
     → IsTrue (serves limits you v want) → SomeoneServes limits (slice_set views k you) v want
 here limits views k me you v want at does = record { number = k; server = you; is = placed views k me you at; does = does }
 
 -- none is forgotten after a step of one party, where each other sleeper is served after it, whether it was refused or served by
 -- the one before it
-forgets_none : (limits : ParkLimits) (core new : ℕ) (t later s now : Bool) (views : List ParkView) (k : ℕ) (me you : ParkView)
+forgets_none : (limits : WordLimits) (core new : ℕ) (t later s now : Bool) (views : List SleepView) (k : ℕ) (me you : SleepView)
     → slice_get views k ≡ Some me → NoneIsForgotten limits core t s views
-    → ((j : ℕ) (v : ParkView) (want : ExWant) → j ≢ k → slice_get views j ≡ Some v → v.park ≡ Asleep want → s ≡ true → IsRefused limits core t v want
+    → ((j : ℕ) (v : SleepView) (want : ExWant) → j ≢ k → slice_get views j ≡ Some v → v.sleep ≡ Asleep want → s ≡ true → IsRefused limits core t v want
     → IsServed limits new later now (slice_set views k you) v want)
-    → ((j : ℕ) (v : ParkView) (want : ExWant) → slice_get views j ≡ Some v → v.park ≡ Asleep want → IsTrue (serves limits me v want)
+    → ((j : ℕ) (v : SleepView) (want : ExWant) → slice_get views j ≡ Some v → v.sleep ≡ Asleep want → IsTrue (serves limits me v want)
     → IsServed limits new later now (slice_set views k you) v want)
-    → ((want : ExWant) → you.park ≡ Asleep want → IsServed limits new later now (slice_set views k you) you want)
+    → ((want : ExWant) → you.sleep ≡ Asleep want → IsServed limits new later now (slice_set views k you) you want)
     → NoneIsForgotten limits new later now (slice_set views k you)
 forgets_none limits core new t later s now views k me you at none refused served own j v want is asleep =
     elim (changed_or_not views k j you v is) [
       | inl e ↦
-          subst (λ (w : ParkView). IsServed limits new later now (slice_set views k you) w want) (sym e.1)
-          (own want (subst (λ (w : ParkView). w.park ≡ Asleep want) e.1 asleep))
+          subst (λ (w : SleepView). IsServed limits new later now (slice_set views k you) w want) (sym e.1)
+          (own want (subst (λ (w : SleepView). w.sleep ≡ Asleep want) e.1 asleep))
       | inr e ↦
           elim (none j v want e.1 asleep) [
             | inl before ↦ refused j v want e.0 e.1 asleep before.0 before.1
@@ -147,20 +147,20 @@ forgets_none limits core new t later s now views k me you at none refused served
                   | inl same ↦
                       (let found : slice_get views k ≡ Some someone.server = subst (λ n. slice_get views n ≡ Some someone.server) same someone.is in
                       let is_me : someone.server ≡ me = same_Some someone.server me (sym found ∙ at) in
-                      served j v want e.1 asleep (subst (λ (w : ParkView). IsTrue (serves limits w v want)) is_me someone.does))
+                      served j v want e.1 asleep (subst (λ (w : SleepView). IsTrue (serves limits w v want)) is_me someone.does))
                   | inr other ↦ inr (server_stays limits views k you v want someone other)
                 ]
           ]
     ]
 
 -- a mutex has no T, so its core refuses
-core_refuses : (limits : ParkLimits) (core : ℕ) (t : Bool) (v : ParkView) (want : ExWant) → t ≡ false → IsRefused limits core t v want
+core_refuses : (limits : WordLimits) (core : ℕ) (t : Bool) (v : SleepView) (want : ExWant) → t ≡ false → IsRefused limits core t v want
     → admits_to limits core v want ≡ false
 core_refuses limits core t v want clear (inl core_does) = core_does
 core_refuses limits core t v want clear (inr turn) = absurd (false≢true (sym clear ∙ turn.0))
 
 -- T refuses those that no release under it reaches
-turn_refuses : (v : ParkView) (wish : ExWant) → is_in_turn v wish ≡ false → passes_turn v.held.announced wish ≡ false
+turn_refuses : (v : SleepView) (wish : ExWant) → is_in_turn v wish ≡ false → passes_turn v.held.announced wish ≡ false
 turn_refuses v wish out =
     let two = or_parts (is_next v wish) (is_shared wish) out in
     let one = or_parts v.held.announced (is_upgrade wish) two.0 in
@@ -178,14 +178,14 @@ not_true true h = absurd (false≢true h)
 not_true false h = refl
 
 -- a duty serves those without a bar
-pub duty_serves : (limits : ParkLimits) (me v : ParkView) → IsTrue (has_duty limits me && not v.held.announced)
+pub duty_serves : (limits : WordLimits) (me v : SleepView) → IsTrue (has_duty limits me && not v.held.announced)
     → IsTrue (has_duty limits me) × (v.held.announced ≡ false)
 duty_serves limits me v does =
     let two = and_parts (has_duty limits me) (not v.held.announced) does in
     (two.0, not_true v.held.announced two.1)
 
 -- one that owes nothing serves by its duty
-serves_by_duty : (limits : ParkLimits) (me v : ParkView) (want : ExWant) → me.debt ≡ Nothing → IsTrue (serves limits me v want)
+serves_by_duty : (limits : WordLimits) (me v : SleepView) (want : ExWant) → me.debt ≡ Nothing → IsTrue (serves limits me v want)
     → IsTrue (has_duty limits me) × (v.held.announced ≡ false)
 serves_by_duty limits me v want debt does =
     let none : reaches limits me.debt v want ≡ false = ap (λ d. reaches limits d v want) debt in
@@ -194,15 +194,15 @@ serves_by_duty limits me v want debt does =
       | inr duty ↦ duty_serves limits me v duty
     ]
 
-duty_in_mutex : (limits : ParkLimits) (v : ParkView) → IsTrue (has_duty limits v) → IsTrue limits.wakes_one
-duty_in_mutex limits v duty = (and_parts limits.wakes_one (is_woken v.park) duty).0
+duty_in_mutex : (limits : WordLimits) (v : SleepView) → IsTrue (has_duty limits v) → IsTrue limits.wakes_one
+duty_in_mutex limits v duty = (and_parts limits.wakes_one (is_woken v.sleep) duty).0
 
-mutex_admits : (limits : ParkLimits) (core : ℕ) (v : ParkView) (want : ExWant) → IsTrue limits.wakes_one
+mutex_admits : (limits : WordLimits) (core : ℕ) (v : SleepView) (want : ExWant) → IsTrue limits.wakes_one
     → admits_to limits core v want ≡ is_free v core
 mutex_admits limits core v want one = ap (λ b. if b then is_free v core else word_admits v.held.announced limits.readers core want) one
 
 -- a mutex that somebody holds refuses all
-pub held_refuses : (limits : ParkLimits) (core : ℕ) (v : ParkView) (want : ExWant) → IsTrue limits.wakes_one → core % 2 ^ 34 ≢ 0
+pub held_refuses : (limits : WordLimits) (core : ℕ) (v : SleepView) (want : ExWant) → IsTrue limits.wakes_one → core % 2 ^ 34 ≢ 0
     → admits_to limits core v want ≡ false
 held_refuses limits core v want one held = mutex_admits limits core v want one ∙ by v.held.announced
   where
@@ -211,20 +211,20 @@ held_refuses limits core v want one held = mutex_admits limits core v want one �
     by false = false_from_ne_true (core == 0) (λ e. held (ap (λ n. n % 2 ^ 34) (eqb-true core 0 e)))
 
 -- a mutex whose word is not zero refuses those without a bar
-pub mutex_refuses : (limits : ParkLimits) (core : ℕ) (v : ParkView) (want : ExWant) → IsTrue limits.wakes_one → v.held.announced ≡ false
+pub mutex_refuses : (limits : WordLimits) (core : ℕ) (v : SleepView) (want : ExWant) → IsTrue limits.wakes_one → v.held.announced ≡ false
     → core ≢ 0 → admits_to limits core v want ≡ false
 mutex_refuses limits core v want one bare taken =
     mutex_admits limits core v want one
     ∙ (ap (λ b. if b then core % 2 ^ 34 == 0 else core == 0) bare ∙ false_from_ne_true (core == 0) (λ e. taken (eqb-true core 0 e)))
 
-pub mutex_held : (limits : ParkLimits) (core : ℕ) (v : ParkView) (want : ExWant) → IsTrue limits.wakes_one → v.held.announced ≡ true
+pub mutex_held : (limits : WordLimits) (core : ℕ) (v : SleepView) (want : ExWant) → IsTrue limits.wakes_one → v.held.announced ≡ true
     → admits_to limits core v want ≡ false → core % 2 ^ 34 ≢ 0
 mutex_held limits core v want one bar refused free =
     false≢true
     (sym refused
     ∙ (mutex_admits limits core v want one ∙ (ap (λ b. if b then core % 2 ^ 34 == 0 else core == 0) bar ∙ eq-eqb (core % 2 ^ 34) 0 free)))
 
-pub mutex_taken : (limits : ParkLimits) (core : ℕ) (v : ParkView) (want : ExWant) → IsTrue limits.wakes_one
+pub mutex_taken : (limits : WordLimits) (core : ℕ) (v : SleepView) (want : ExWant) → IsTrue limits.wakes_one
     → admits_to limits core v want ≡ false → core ≢ 0
 mutex_taken limits core v want one refused free = false≢true (sym refused ∙ (mutex_admits limits core v want one ∙ by v.held.announced))
   where
@@ -232,7 +232,7 @@ mutex_taken limits core v want one refused free = false≢true (sym refused ∙ 
     by true = eq-eqb (core % 2 ^ 34) 0 (ap (λ n. n % 2 ^ 34) free)
     by false = eq-eqb core 0 free
 
-pub others_admit : (limits : ParkLimits) (core : ℕ) (v : ParkView) (want : ExWant) → limits.wakes_one ≡ false
+pub others_admit : (limits : WordLimits) (core : ℕ) (v : SleepView) (want : ExWant) → limits.wakes_one ≡ false
     → admits_to limits core v want ≡ word_admits v.held.announced limits.readers core want
 others_admit limits core v want many = ap (λ b. if b then is_free v core else word_admits v.held.announced limits.readers core want) many
 
@@ -258,7 +258,7 @@ held_after a limit core want.Upgrade h held e =
 held_after a limit core want.Announce h held e = let low = ltb-true core (2 ^ 34) h in omega arith
 
 -- under a bar, only those that are next are admitted
-barred_refuses : (limits : ParkLimits) (core : ℕ) (v : ParkView) (wish : ExWant) → limits.wakes_one ≡ false → IsTrue (is_awaited wish)
+barred_refuses : (limits : WordLimits) (core : ℕ) (v : SleepView) (wish : ExWant) → limits.wakes_one ≡ false → IsTrue (is_awaited wish)
     → 2 ^ 34 ≤ core → is_next v wish ≡ false → admits_to limits core v wish ≡ false
 barred_refuses limits core v wish many awaited bar not_next =
     let two = or_parts v.held.announced (is_upgrade wish) not_next in
@@ -272,15 +272,15 @@ barred_refuses limits core v wish many awaited bar not_next =
     by a not_set want.Announce h u = absurd (false≢true h)
 
 -- a release that frees no mutex leaves it held
-still_held : (limits : ParkLimits) (core new : ℕ) → IsTrue limits.wakes_one → frees limits core new ≡ false → new % 2 ^ 34 ≢ 0
+still_held : (limits : WordLimits) (core new : ℕ) → IsTrue limits.wakes_one → frees limits core new ≡ false → new % 2 ^ 34 ≢ 0
 still_held limits core new one need free =
     let opened : frees limits core new ≡ (new % 2 ^ 34 == 0) = ap (λ b. if b then new % 2 ^ 34 == 0 else word_unblocks limits.readers core new) one in
     false≢true (sym need ∙ (opened ∙ eq-eqb (new % 2 ^ 34) 0 free))
 
 -- the steps of a party, whatever all others are
 
-module _ (limits : ParkLimits) (core : ℕ) (t s : Bool) (views : List ParkView) (k : ℕ) (me : ParkView)
-    (range : IsLimit limits.readers) (kept : KeepsParking limits core t s views) (at : slice_get views k ≡ Some me) where
+module _ (limits : WordLimits) (core : ℕ) (t s : Bool) (views : List SleepView) (k : ℕ) (me : SleepView)
+    (range : IsLimit limits.readers) (kept : KeepsSleepers limits core t s views) (at : slice_get views k ≡ Some me) where
   sums : Sums limits.readers core views
   sums = record { coded = kept.coded; legal = kept.legal }
 
@@ -288,10 +288,10 @@ module _ (limits : ParkLimits) (core : ℕ) (t s : Bool) (views : List ParkView)
   rule = rule_of limits.readers core views kept.coded kept.legal
 
   -- a step of the party at k, as far as the rule speaks of all
-  keeps : (new : ℕ) (later now : Bool) (you : ParkView) → Sums limits.readers new (slice_set views k you)
-      → ((want : ExWant) → you.park ≡ Asleep want → IsEntitled you want)
+  keeps : (new : ℕ) (later now : Bool) (you : SleepView) → Sums limits.readers new (slice_set views k you)
+      → ((want : ExWant) → you.sleep ≡ Asleep want → IsEntitled you want)
       → (IsTrue limits.wakes_one → later ≡ false)
-      → NoneIsForgotten limits new later now (slice_set views k you) → KeepsParking limits new later now (slice_set views k you)
+      → NoneIsForgotten limits new later now (slice_set views k you) → KeepsSleepers limits new later now (slice_set views k you)
   keeps new later now you total own no_turn none =
       record {
         coded = total.coded;
@@ -300,26 +300,26 @@ module _ (limits : ParkLimits) (core : ℕ) (t s : Bool) (views : List ParkView)
         no_turn = no_turn;
         entitled = λ j v want is asleep.
             elim (changed_or_not views k j you v is) [
-              | inl e ↦ subst (λ (w : ParkView). IsEntitled w want) (sym e.1) (own want (subst (λ (w : ParkView). w.park ≡ Asleep want) e.1 asleep))
+              | inl e ↦ subst (λ (w : SleepView). IsEntitled w want) (sym e.1) (own want (subst (λ (w : SleepView). w.sleep ≡ Asleep want) e.1 asleep))
               | inr e ↦ kept.entitled j v want e.1 asleep
             ];
         none_forgotten = none;
       }
 
   -- a step that leaves the word and what the party holds
-  quiet : (you : ParkView) → you.held ≡ me.held → ((want : ExWant) → you.park ≡ Asleep want → IsEntitled you want)
-      → NoneIsForgotten limits core t s (slice_set views k you) → KeepsParking limits core t s (slice_set views k you)
+  quiet : (you : SleepView) → you.held ≡ me.held → ((want : ExWant) → you.sleep ≡ Asleep want → IsEntitled you want)
+      → NoneIsForgotten limits core t s (slice_set views k you) → KeepsSleepers limits core t s (slice_set views k you)
   quiet you held own none =
       keeps core t s you (sums_same limits.readers core views (slice_set views k you) (same_holds views k me you at held) sums) own
       kept.no_turn none
 
-  no_turn_in : IsTrue limits.wakes_one → (v : ParkView) (want : ExWant) → IsRefused limits core t v want → admits_to limits core v want ≡ false
+  no_turn_in : IsTrue limits.wakes_one → (v : SleepView) (want : ExWant) → IsRefused limits core t v want → admits_to limits core v want ≡ false
   no_turn_in one v want refused = core_refuses limits core t v want (kept.no_turn one) refused
 
   exchange : (want : ExWant) (now : Bool) → IsTrue (hold_has me.held (step_of_want want))
       → IsTrue (word_admits me.held.announced limits.readers core want)
       → me.debt ≡ Nothing → (s ≡ true → now ≡ true) → (IsTrue (has_duty limits me) → now ≡ true)
-      → KeepsParking limits (word_after core want) t now (slice_set views k (after_win me want))
+      → KeepsSleepers limits (word_after core want) t now (slice_set views k (after_win me want))
   exchange want now has admits debt stays sets =
       let you = after_win me want in
       let new = word_after core want in
@@ -361,7 +361,7 @@ module _ (limits : ParkLimits) (core : ℕ) (t s : Bool) (views : List ParkView)
       (λ other asleep. cc))
 
   -- the party owes all a wake-up, if S was set
-  all_owed : (you : ParkView) (new : ℕ) (now : Bool) → me.debt ≡ Nothing → limits.wakes_one ≡ false → (s ≡ true → you.debt ≡ All) → you.park ≡ Awake
+  all_owed : (you : SleepView) (new : ℕ) (now : Bool) → me.debt ≡ Nothing → limits.wakes_one ≡ false → (s ≡ true → you.debt ≡ All) → you.sleep ≡ Awake
       → NoneIsForgotten limits new false now (slice_set views k you)
   all_owed you new now debt many owes awake =
       forgets_none limits core new t false s now views k me you at kept.none_forgotten
@@ -376,7 +376,7 @@ module _ (limits : ParkLimits) (core : ℕ) (t s : Bool) (views : List ParkView)
   takes_turn : (want : ExWant) (now : Bool) (debt : Debt) → IsTrue (hold_has me.held (step_of_want want))
       → IsTrue (word_admits me.held.announced limits.readers core want)
       → me.debt ≡ Nothing → limits.wakes_one ≡ false → (s ≡ true → debt ≡ All)
-      → KeepsParking limits (word_after core want) false now (slice_set views k (with_debt (after_win me want) debt))
+      → KeepsSleepers limits (word_after core want) false now (slice_set views k (with_debt (after_win me want) debt))
   takes_turn want now debt has admits nothing many owes =
       let you = with_debt (after_win me want) debt in
       let new = word_after core want in
@@ -388,14 +388,14 @@ module _ (limits : ParkLimits) (core : ℕ) (t s : Bool) (views : List ParkView)
       (all_owed you new now nothing many owes refl)
 
   drops_turn : (debt : Debt) → me.debt ≡ Nothing → limits.wakes_one ≡ false → (s ≡ true → debt ≡ All)
-      → KeepsParking limits core false s (slice_set views k (with_debt (with_park me Awake) debt))
+      → KeepsSleepers limits core false s (slice_set views k (with_debt (with_sleep me Awake) debt))
   drops_turn debt nothing many owes =
-      let you = with_debt (with_park me Awake) debt in
+      let you = with_debt (with_sleep me Awake) debt in
       keeps core false s you (sums_same limits.readers core views (slice_set views k you) (same_holds views k me you at refl) sums)
       (λ other asleep. cc) (λ one. refl)
       (all_owed you core s nothing many owes refl)
 
-  turns_set : limits.wakes_one ≡ false → KeepsParking limits core true true views
+  turns_set : limits.wakes_one ≡ false → KeepsSleepers limits core true true views
   turns_set many =
       record {
         coded = kept.coded;
@@ -407,11 +407,11 @@ module _ (limits : ParkLimits) (core : ℕ) (t s : Bool) (views : List ParkView)
             elim (kept.none_forgotten j v want is asleep) [ inl e ↦ inl (refl, still v want e.1) | inr e ↦ inr e ];
       }
     where
-      still : (v : ParkView) (want : ExWant) → IsRefused limits core t v want → IsRefused limits core true v want
+      still : (v : SleepView) (want : ExWant) → IsRefused limits core t v want → IsRefused limits core true v want
       still v want (inl core_does) = inl core_does
       still v want (inr turn) = inr (refl, turn.1)
 
-  marks : KeepsParking limits core t true views
+  marks : KeepsSleepers limits core t true views
   marks =
       record {
         coded = kept.coded;
@@ -425,11 +425,11 @@ module _ (limits : ParkLimits) (core : ℕ) (t s : Bool) (views : List ParkView)
 
   -- a sleeper that was refused, after a release that does what it has to
   -- the party after the release
-  abbrev freed : Hold → Debt → ParkView
-  freed held debt = record { held = held; park = Awake; debt = debt }
+  abbrev freed : Hold → Debt → SleepView
+  freed held debt = record { held = held; sleep = Awake; debt = debt }
 
   -- under a bar, those that are not next are refused
-  still_barred : (new : ℕ) (j : ℕ) (v : ParkView) (want : ExWant) → 2 ^ 34 ≤ new → slice_get views j ≡ Some v → v.park ≡ Asleep want → is_next v want ≡ false
+  still_barred : (new : ℕ) (j : ℕ) (v : SleepView) (want : ExWant) → 2 ^ 34 ≤ new → slice_get views j ≡ Some v → v.sleep ≡ Asleep want → is_next v want ≡ false
       → admits_to limits new v want ≡ false
   still_barred new j v want bar is asleep not_next =
       elim (cases_Bool limits.wakes_one) [
@@ -437,9 +437,9 @@ module _ (limits : ParkLimits) (core : ℕ) (t s : Bool) (views : List ParkView)
         | inr many ↦ barred_refuses limits new v want many (kept.entitled j v want is asleep).0 bar not_next
       ]
 
-  paid : (new : ℕ) (now : Bool) (debt : Debt) (held : Hold) (j : ℕ) (v : ParkView) (want : ExWant) → IsPaid limits core new t s now debt
+  paid : (new : ℕ) (now : Bool) (debt : Debt) (held : Hold) (j : ℕ) (v : SleepView) (want : ExWant) → IsPaid limits core new t s now debt
       → Sums limits.readers new (slice_set views k (freed held debt))
-      → j ≢ k → slice_get views j ≡ Some v → v.park ≡ Asleep want → s ≡ true → IsRefused limits core t v want
+      → j ≢ k → slice_get views j ≡ Some v → v.sleep ≡ Asleep want → s ≡ true → IsRefused limits core t v want
       → IsServed limits new t now (slice_set views k (freed held debt)) v want
   paid new now Nothing held j v want (is_unset clear) total apart is asleep set refused = absurd (false≢true (sym clear ∙ set))
   paid new now Nothing held j v want (is_unneeded need keeps_s) total apart is asleep set refused =
@@ -493,7 +493,7 @@ module _ (limits : ParkLimits) (core : ℕ) (t s : Bool) (views : List ParkView)
   take : (down : Down) (now : Bool) (debt : Debt) → IsTrue (hold_has me.held (step_of_down down))
       → me.debt ≡ Nothing → (IsTrue (has_duty limits me) → (now ≡ true) × (frees limits core (core - amount down) ≡ false))
       → IsPaid limits core (core - amount down) t s now debt
-      → KeepsParking limits (core - amount down) t now (slice_set views k (after_take me down debt))
+      → KeepsSleepers limits (core - amount down) t now (slice_set views k (after_take me down debt))
   take down now debt has nothing dutiful pays =
       let you = after_take me down debt in
       let new = core - amount down in
@@ -513,9 +513,9 @@ module _ (limits : ParkLimits) (core : ℕ) (t s : Bool) (views : List ParkView)
       (λ other asleep. cc))
 
   sleeps : (want : ExWant) → IsEntitled me want → me.debt ≡ Nothing → s ≡ true → IsRefused limits core t me want
-      → KeepsParking limits core t s (slice_set views k (with_park me (Asleep want)))
+      → KeepsSleepers limits core t s (slice_set views k (with_sleep me (Asleep want)))
   sleeps want due debt set refused =
-      let you = with_park me (Asleep want) in
+      let you = with_sleep me (Asleep want) in
       quiet you refl (λ other asleep. by other asleep)
       (forgets_none limits core core t t s s views k me you at kept.none_forgotten
       (λ j v other apart is asleep was no. inl (was, no))
@@ -528,12 +528,12 @@ module _ (limits : ParkLimits) (core : ℕ) (t s : Bool) (views : List ParkView)
       same : (x y : ExWant) → Asleep x ≡ Asleep y → x ≡ y
       same x y e = cc
 
-      by : (other : ExWant) → Asleep want ≡ Asleep other → IsEntitled (with_park me (Asleep want)) other
-      by other e = subst (λ w. IsEntitled (with_park me (Asleep want)) w) (same want other e) due
+      by : (other : ExWant) → Asleep want ≡ Asleep other → IsEntitled (with_sleep me (Asleep want)) other
+      by other e = subst (λ w. IsEntitled (with_sleep me (Asleep want)) w) (same want other e) due
 
-  wakes : KeepsParking limits core t s (slice_set views k (with_park me Woken))
+  wakes : KeepsSleepers limits core t s (slice_set views k (with_sleep me Woken))
   wakes =
-      let you = with_park me Woken in
+      let you = with_sleep me Woken in
       quiet you refl (λ other asleep. cc)
       (forgets_none limits core core t t s s views k me you at kept.none_forgotten
       (λ j v other apart is asleep was no. inl (was, no))
@@ -549,9 +549,9 @@ module _ (limits : ParkLimits) (core : ℕ) (t s : Bool) (views : List ParkView)
       (λ other asleep. cc))
 
   stops : me.debt ≡ Nothing → (IsTrue limits.wakes_one → (s ≡ true) × (core ≢ 0))
-      → KeepsParking limits core t s (slice_set views k (with_park me Awake))
+      → KeepsSleepers limits core t s (slice_set views k (with_sleep me Awake))
   stops debt found =
-      let you = with_park me Awake in
+      let you = with_sleep me Awake in
       quiet you refl (λ other asleep. cc)
       (forgets_none limits core core t t s s views k me you at kept.none_forgotten
       (λ j v other apart is asleep was no. inl (was, no))
@@ -561,8 +561,8 @@ module _ (limits : ParkLimits) (core : ℕ) (t s : Bool) (views : List ParkView)
       inl ((found one).0, inl (mutex_refuses limits core v other one duty.1 (found one).1)))
       (λ other asleep. cc))
 
-  pays_one : (j : ℕ) (w : ParkView) → me.debt ≡ One → is_asleep me.park ≡ false → j ≢ k → slice_get views j ≡ Some w → w.park ≡ Woken
-      → KeepsParking limits core t s (slice_set views k (with_debt me Nothing))
+  pays_one : (j : ℕ) (w : SleepView) → me.debt ≡ One → is_asleep me.sleep ≡ false → j ≢ k → slice_get views j ≡ Some w → w.sleep ≡ Woken
+      → KeepsSleepers limits core t s (slice_set views k (with_debt me Nothing))
   pays_one j w owes awake other is_w woken =
       let you = with_debt me Nothing in
       quiet you refl (λ want asleep. absurd (true≢false (sym (ap is_asleep asleep) ∙ awake)))
@@ -582,12 +582,12 @@ module _ (limits : ParkLimits) (core : ℕ) (t s : Bool) (views : List ParkView)
         is = other_stays views k j you w other is_w;
         does =
             or_right (reaches limits w.debt v want) (has_duty limits w && not v.held.announced)
-            (and_from (has_duty limits w) (not v.held.announced) (and_from limits.wakes_one (is_woken w.park) owed.0 (ap is_woken woken)) owed.1);
+            (and_from (has_duty limits w) (not v.held.announced) (and_from limits.wakes_one (is_woken w.sleep) owed.0 (ap is_woken woken)) owed.1);
       })
       (λ want asleep. absurd (true≢false (sym (ap is_asleep asleep) ∙ awake))))
 
-  pays_nobody : ((j : ℕ) (v : ParkView) → slice_get views j ≡ Some v → is_asleep v.park ≡ false)
-      → KeepsParking limits core t s (slice_set views k (with_debt me Nothing))
+  pays_nobody : ((j : ℕ) (v : SleepView) → slice_get views j ≡ Some v → is_asleep v.sleep ≡ false)
+      → KeepsSleepers limits core t s (slice_set views k (with_debt me Nothing))
   pays_nobody nobody =
       let you = with_debt me Nothing in
       quiet you refl (λ want asleep. absurd (true≢false (sym (ap is_asleep asleep) ∙ nobody k me at)))
@@ -599,26 +599,26 @@ module _ (limits : ParkLimits) (core : ℕ) (t s : Bool) (views : List ParkView)
 -- the wake-ups of many
 
 -- an element of a mapped list is the image of one
-of_mapped : (f : ParkView → ParkView) (views : List ParkView) (j : ℕ) (w : ParkView) → slice_get (map f views) j ≡ Some w
-    → (v : ParkView) × (slice_get views j ≡ Some v) × (w ≡ f v)
+of_mapped : (f : SleepView → SleepView) (views : List SleepView) (j : ℕ) (w : SleepView) → slice_get (map f views) j ≡ Some w
+    → (v : SleepView) × (slice_get views j ≡ Some v) × (w ≡ f v)
 of_mapped f [] j w h = cc
 of_mapped f (v ∷ views) zero w h = (v, refl, same_Some w (f v) (sym h))
 of_mapped f (v ∷ views) (suc j) w h = of_mapped f views j w h
 
-in_mapped : (f : ParkView → ParkView) (views : List ParkView) (j : ℕ) (v : ParkView) → slice_get views j ≡ Some v → slice_get (map f views) j ≡ Some (f v)
+in_mapped : (f : SleepView → SleepView) (views : List SleepView) (j : ℕ) (v : SleepView) → slice_get views j ≡ Some v → slice_get (map f views) j ≡ Some (f v)
 in_mapped f views j v h = rw (slice_get-map f views j, h)
 
-pub mapped_holds : (f : ParkView → ParkView) (views : List ParkView) → ((v : ParkView) → (f v).held ≡ v.held) → holds_of (map f views) ≡ holds_of views
+pub mapped_holds : (f : SleepView → SleepView) (views : List SleepView) → ((v : SleepView) → (f v).held ≡ v.held) → holds_of (map f views) ≡ holds_of views
 mapped_holds f [] same = refl
 mapped_holds f (v ∷ views) same = ap (λ hs. (f v).held ∷ hs) (mapped_holds f views same) ∙ ap (λ h. h ∷ holds_of views) (same v)
 
-none_asleep_all : (park : Park) (want : ExWant) → wake_park_all park ≡ Asleep want → ⊥
+none_asleep_all : (state : SleepState) (want : ExWant) → woken_all state ≡ Asleep want → ⊥
 none_asleep_all Awake want e = cc
 none_asleep_all (Asleep x) want e = cc
 none_asleep_all Woken want e = cc
 
 -- one that sleeps on slept before, and the test does not name it
-sleeps_on : (test : ParkView → ExWant → Bool) (v : ParkView) (park : Park) (want : ExWant) → wake_park_of test v park ≡ Asleep want → (park ≡ Asleep want) × (test v want ≡ false)
+sleeps_on : (test : SleepView → ExWant → Bool) (v : SleepView) (state : SleepState) (want : ExWant) → woken_of test v state ≡ Asleep want → (state ≡ Asleep want) × (test v want ≡ false)
 sleeps_on test v Awake want e = cc
 sleeps_on test v (Asleep x) want e = by (test v x) refl e
   where
@@ -630,12 +630,12 @@ sleeps_on test v (Asleep x) want e = by (test v x) refl e
     by false is e = (e, subst (λ w. test v w ≡ false) (same x want e) (sym is))
 sleeps_on test v Woken want e = cc
 
-woken_stays : (test : ParkView → ExWant → Bool) (v : ParkView) (park : Park) → IsTrue (is_woken park) → IsTrue (is_woken (wake_park_of test v park))
+woken_stays : (test : SleepView → ExWant → Bool) (v : SleepView) (state : SleepState) → IsTrue (is_woken state) → IsTrue (is_woken (woken_of test v state))
 woken_stays test v Awake h = h
 woken_stays test v (Asleep x) h = absurd (false≢true h)
 woken_stays test v Woken h = h
 
-still_reaches : (test : ParkView → ExWant → Bool) (limits : ParkLimits) (debt : Debt) (v : ParkView) (want : ExWant) → IsTrue (reaches limits debt v want)
+still_reaches : (test : SleepView → ExWant → Bool) (limits : WordLimits) (debt : Debt) (v : SleepView) (want : ExWant) → IsTrue (reaches limits debt v want)
     → IsTrue (reaches limits debt (wake_of test v) want)
 still_reaches test limits Nothing v want h = h
 still_reaches test limits One v want h = h
@@ -643,13 +643,13 @@ still_reaches test limits All v want h = h
 still_reaches test limits Next v want h = h
 still_reaches test limits Turn v want h = h
 
-module _ (limits : ParkLimits) (core : ℕ) (t s : Bool) (views : List ParkView) (k : ℕ) (me : ParkView)
-    (range : IsLimit limits.readers) (kept : KeepsParking limits core t s views) (at : slice_get views k ≡ Some me) where
+module _ (limits : WordLimits) (core : ℕ) (t s : Bool) (views : List SleepView) (k : ℕ) (me : SleepView)
+    (range : IsLimit limits.readers) (kept : KeepsSleepers limits core t s views) (at : slice_get views k ≡ Some me) where
   -- the party at k pays, and f wakes
-  paid_by : (f : ParkView → ParkView) (views_after : List ParkView) → views_after ≡ slice_set (map f views) k (with_debt (f me) Nothing)
-      → ((v : ParkView) → (f v).held ≡ v.held)
-      → ((j : ℕ) (w : ParkView) (want : ExWant) → slice_get views_after j ≡ Some w → w.park ≡ Asleep want → IsEntitled w want × IsServed limits core t s views_after w want)
-      → KeepsParking limits core t s views_after
+  paid_by : (f : SleepView → SleepView) (views_after : List SleepView) → views_after ≡ slice_set (map f views) k (with_debt (f me) Nothing)
+      → ((v : SleepView) → (f v).held ≡ v.held)
+      → ((j : ℕ) (w : SleepView) (want : ExWant) → slice_get views_after j ≡ Some w → w.sleep ≡ Asleep want → IsEntitled w want × IsServed limits core t s views_after w want)
+      → KeepsSleepers limits core t s views_after
   paid_by f later is same each =
       let mid = map f views in
       let you = with_debt (f me) Nothing in
@@ -665,21 +665,21 @@ module _ (limits : ParkLimits) (core : ℕ) (t s : Bool) (views : List ParkView)
         none_forgotten = λ j w want at_j asleep. (each j w want at_j asleep).1;
       }
 
-  pays_all : me.debt ≡ All → KeepsParking limits core t s (slice_set (map wake_all views) k (with_debt (wake_all me) Nothing))
+  pays_all : me.debt ≡ All → KeepsSleepers limits core t s (slice_set (map wake_all views) k (with_debt (wake_all me) Nothing))
   pays_all owes =
       let you = with_debt (wake_all me) Nothing in
       paid_by wake_all (slice_set (map wake_all views) k you) refl (λ v. refl) (λ j w want is asleep.
       elim (changed_or_not (map wake_all views) k j you w is) [
-        | inl e ↦ absurd (none_asleep_all me.park want (subst (λ (x : ParkView). x.park ≡ Asleep want) e.1 asleep))
+        | inl e ↦ absurd (none_asleep_all me.sleep want (subst (λ (x : SleepView). x.sleep ≡ Asleep want) e.1 asleep))
         | inr e ↦
             (let from = of_mapped wake_all views j w e.1 in
-            absurd (none_asleep_all from.0.park want (subst (λ (x : ParkView). x.park ≡ Asleep want) from.2 asleep)))
+            absurd (none_asleep_all from.0.sleep want (subst (λ (x : SleepView). x.sleep ≡ Asleep want) from.2 asleep)))
       ])
 
   -- a wake-up of those that the test names, whom the debt reaches
-  pays_some : (test : ParkView → ExWant → Bool) (debt : Debt) → ((v : ParkView) (want : ExWant) → reaches limits debt v want ≡ test v want)
-      → me.debt ≡ debt → is_asleep me.park ≡ false → has_duty limits me ≡ false
-      → KeepsParking limits core t s (slice_set (map (wake_of test) views) k (with_debt (wake_of test me) Nothing))
+  pays_some : (test : SleepView → ExWant → Bool) (debt : Debt) → ((v : SleepView) (want : ExWant) → reaches limits debt v want ≡ test v want)
+      → me.debt ≡ debt → is_asleep me.sleep ≡ false → has_duty limits me ≡ false
+      → KeepsSleepers limits core t s (slice_set (map (wake_of test) views) k (with_debt (wake_of test me) Nothing))
   pays_some test debt names owes awake idle =
       let wakes = wake_of test in
       let you = with_debt (wakes me) Nothing in
@@ -687,14 +687,14 @@ module _ (limits : ParkLimits) (core : ℕ) (t s : Bool) (views : List ParkView)
       paid_by wakes (slice_set mid k you) refl (λ v. refl) (λ j w want is asleep.
       elim (changed_or_not mid k j you w is) [
         | inl e ↦
-            (let mine = sleeps_on test me me.park want (subst (λ (x : ParkView). x.park ≡ Asleep want) e.1 asleep) in
+            (let mine = sleeps_on test me me.sleep want (subst (λ (x : SleepView). x.sleep ≡ Asleep want) e.1 asleep) in
             absurd (true≢false (sym (ap is_asleep mine.0) ∙ awake)))
         | inr e ↦
             (let from = of_mapped wakes views j w e.1 in
             let v = from.0 in
-            let slept = sleeps_on test v v.park want (subst (λ (x : ParkView). x.park ≡ Asleep want) from.2 asleep) in (
-              subst (λ (x : ParkView). IsEntitled x want) (sym from.2) (kept.entitled j v want from.1 slept.0),
-              subst (λ (x : ParkView). IsServed limits core t s (slice_set mid k you) x want) (sym from.2)
+            let slept = sleeps_on test v v.sleep want (subst (λ (x : SleepView). x.sleep ≡ Asleep want) from.2 asleep) in (
+              subst (λ (x : SleepView). IsEntitled x want) (sym from.2) (kept.entitled j v want from.1 slept.0),
+              subst (λ (x : SleepView). IsServed limits core t s (slice_set mid k you) x want) (sym from.2)
                   (elim (kept.none_forgotten j v want from.1 slept.0) [
                     | inl before ↦ inl before
                     | inr someone ↦
@@ -702,7 +702,7 @@ module _ (limits : ParkLimits) (core : ℕ) (t s : Bool) (views : List ParkView)
                           | inl same ↦
                               (let found : slice_get views k ≡ Some someone.server = subst (λ n. slice_get views n ≡ Some someone.server) same someone.is in
                               let is_me : someone.server ≡ me = same_Some someone.server me (sym found ∙ at) in
-                              let does : IsTrue (serves limits me v want) = subst (λ (x : ParkView). IsTrue (serves limits x v want)) is_me someone.does in
+                              let does : IsTrue (serves limits me v want) = subst (λ (x : SleepView). IsTrue (serves limits x v want)) is_me someone.does in
                               let not_me : serves limits me v want ≡ false
                               = or_no (reaches limits me.debt v want) (has_duty limits me && not v.held.announced) (ap (λ d. reaches limits d v want) owes ∙ (names v want ∙ slept.1))
                               (ap (λ b. b && not v.held.announced) idle) in
@@ -716,11 +716,11 @@ module _ (limits : ParkLimits) (core : ℕ) (t s : Bool) (views : List ParkView)
                                   | inl owed ↦ or_left (reaches limits someone.server.debt (wakes v) want) (has_duty limits (wakes someone.server) && not v.held.announced) (still_reaches test limits someone.server.debt v want owed)
                                   | inr duty ↦
                                       (let both = and_parts (has_duty limits someone.server) (not v.held.announced) duty in
-                                      let two = and_parts limits.wakes_one (is_woken someone.server.park) both.0 in
+                                      let two = and_parts limits.wakes_one (is_woken someone.server.sleep) both.0 in
                                       or_right (reaches limits someone.server.debt (wakes v) want) (has_duty limits (wakes someone.server) && not v.held.announced)
                                       (and_from (has_duty limits (wakes someone.server)) (not v.held.announced)
-                                      (and_from limits.wakes_one (is_woken (wake_park_of test someone.server someone.server.park)) two.0
-                                      (woken_stays test someone.server someone.server.park two.1)) both.1))
+                                      (and_from limits.wakes_one (is_woken (woken_of test someone.server someone.server.sleep)) two.0
+                                      (woken_stays test someone.server someone.server.sleep two.1)) both.1))
                                 ];
                           }
                         ]
@@ -747,8 +747,8 @@ module _ (limits : ParkLimits) (core : ℕ) (t s : Bool) (views : List ParkView)
         pays_nobody = pays_nobody limits core t s views k me range kept at;
       }
 
-pub starts : (limits : ParkLimits) → IsLimit limits.readers → (IsTrue limits.wakes_one → limits.readers ≡ 1)
-    → KeepsParking limits 0 false false (new_party ∷ [])
+pub starts : (limits : WordLimits) → IsLimit limits.readers → (IsTrue limits.wakes_one → limits.readers ≡ 1)
+    → KeepsSleepers limits 0 false false (new_party ∷ [])
 starts limits range one =
     record {
       coded = refl;
@@ -762,12 +762,12 @@ starts limits range one =
       none_forgotten = λ k v want is asleep. absurd (awake k v want is asleep);
     }
   where
-    awake : (k : ℕ) (v : ParkView) (want : ExWant) → slice_get (new_party ∷ []) k ≡ Some v → v.park ≡ Asleep want → ⊥
+    awake : (k : ℕ) (v : SleepView) (want : ExWant) → slice_get (new_party ∷ []) k ≡ Some v → v.sleep ≡ Asleep want → ⊥
     awake k v want is asleep =
         elim (element_of_longer [] new_party v k is) [
           | inl old ↦ cc
-          | inr new ↦ (let park = ap (λ (w : ParkView). w.park) new in cc)
+          | inr new ↦ (let state = ap (λ (w : SleepView). w.sleep) new in cc)
         ]
 
-pub steps_keep_parking : StepsKeepParking
-steps_keep_parking = record { starts = starts; steps = each_step }
+pub steps_keep_sleepers : StepsKeepSleepers
+steps_keep_sleepers = record { starts = starts; steps = each_step }
