@@ -8,6 +8,7 @@
 mod alike;
 mod bad_lines;
 mod begun;
+mod channels;
 mod core_act;
 mod core_plan;
 mod core_reading;
@@ -36,6 +37,7 @@ mod scan;
 mod spot;
 mod spread;
 mod stands;
+mod templates;
 mod tree;
 mod words;
 

@@ -17,14 +17,16 @@ pub(crate) struct Line {
     pub(crate) written: Written,
 }
 
-/// Whether a `call` or a `pick` is written out.
+/// Whether the lines below a line are those that it is short for.
 #[derive(Clone, Copy, PartialEq, Eq)]
 pub(crate) enum Written {
     No,
     /// What the line says is in the lines below it.
     Inline,
-    /// The lines below it, up to an `end`, are those that it stands for.
+    /// What the line says is in the lines below it, up to an `end`.
     Block,
+    /// No lines say it.
+    Refused,
 }
 
 impl Line {

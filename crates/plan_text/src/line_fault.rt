@@ -35,8 +35,8 @@ pub(crate) enum LineFault {
     NoIndex(usize),
     /// The lock of this word has no limit.
     NoLimit(usize),
-    /// The counter of this word has no greatest value.
-    NoMost(usize),
+    /// The counter of this word has no greatest value, which is at least this.
+    NoMost(usize, usize),
     /// A number is over the greatest value of the counter with this name.
     TooHigh(usize, usize),
     NoCount(usize),
@@ -52,6 +52,10 @@ pub(crate) enum LineFault {
     Arguments(usize, usize),
     /// A function calls this one, which is not above it.
     NotAbove(usize),
+    /// A try of a send on this channel, which has no room.
+    NoTryOffer(usize),
+    /// A channel that is closed has too much room.
+    TooMuchRoom(usize),
     /// No latch, or else no barrier or latch, has the name.
     NoGate(bool, usize),
     /// No lock is in the row, or only the one that is left out.
@@ -176,7 +180,9 @@ impl fmt::Display for Why<'_> {
             LineFault::NoLimit(word) => {
                 write!(f, "'{}' needs a limit from 1 to 4294967295", text(word))
             }
-            LineFault::NoMost(word) => write!(f, "'{}' needs a number from 1 to 64", text(word)),
+            LineFault::NoMost(word, least) => {
+                write!(f, "'{}' needs a number from {least} to 64", text(word))
+            }
             LineFault::TooHigh(name, most) => { write!(f, "'{}' is never over {most}", text(name)) }
             LineFault::NoCount(word) => {
                 write!(f, "'{}' is no count from 1 to 64, and no '*'", text(word))
@@ -208,6 +214,12 @@ impl fmt::Display for Why<'_> {
                 "function '{}' is not above the function that calls it",
                 text(name)
             ),
+            LineFault::NoTryOffer(name) => {
+                write!(f, "no try of a send on '{}', which has no room", text(name))
+            }
+            LineFault::TooMuchRoom(name) => {
+                write!(f, "'{}' is closed, and may have room for 63 items at most", text(name))
+            }
             LineFault::NoGate(true, name) => write!(f, "no latch '{}'", text(name)),
             LineFault::NoGate(false, name) => { write!(f, "no barrier or latch '{}'", text(name)) }
             LineFault::NoChoice(row) => write!(f, "no lock to pick in row '{}'", text(row)),

@@ -87,7 +87,8 @@ fn wrong_field(words: &Words, word: usize, role: Role, fields: &[usize]) -> Opti
                 [] => false,
                 [most, ..] => number(words.text(*most)).is_some(),
             };
-            (!is_right).then_some(LineFault::NoMost(word))
+            let least = usize::from(role != Role::Counter(CounterKind::Channel));
+            (!is_right).then_some(LineFault::NoMost(word, least))
         }
         Role::Set if words.is_name(name) => None,
         Role::Define if !words.is_name(name) => Some(LineFault::NoName(name)),

@@ -3,7 +3,7 @@ use crate::counter::Counter;
 use crate::line::Written;
 use crate::names::Names;
 use crate::origin::LineAt;
-use crate::said::{Condition, Join, Look, Said, WaitLine};
+use crate::said::{Condition, Join, Look, Receipt, Said, WaitLine};
 use crate::tree::{Node, Tree};
 use lock_modes::{Kind, LockStep, Mode, ModeStep};
 use lock_plan::{Act, Block, PlanCall, PlanLock, ProgramPlace, Signal};
@@ -112,6 +112,7 @@ fn begins(said: Said) -> bool {
         said,
         Said::Try(..)
             | Said::TryMove(..)
+            | Said::Receipt(..)
             | Said::If(_)
             | Said::Until(_)
             | Said::Repeat
@@ -140,9 +141,11 @@ impl Elaboration<'_> {
             | Said::Counter(..)
             | Said::Condvar(_)
             | Said::Unlatched(..)
+            | Said::Unclosed(_)
+            | Said::TryOffer(_)
             | Said::Party(..)
             | Said::Define(..)
-            | Said::Pick(_, Written::No | Written::Inline) => Ok(()),
+            | Said::Pick(_, Written::No | Written::Inline | Written::Refused) => Ok(()),
             Said::Call(is_rwlock, step, lock) => {
                 let call = self.call(is_rwlock, step, lock);
                 self.step(Act::Call(call))
@@ -167,6 +170,7 @@ impl Elaboration<'_> {
                     Block::TryTake(row)
                 }))
             }
+            Said::Receipt(how, channel, any) => self.begin_receipt(how, channel, any),
             Said::SetFlag(value, name) => self.set(name, usize::from(value)),
             Said::SetCounter(value, name) => self.set(name, value),
             Said::Assert(condition) => self.assert(condition),
@@ -351,6 +355,37 @@ impl Elaboration<'_> {
         self.decide(condition, past, inside)?;
         self.here = inside;
         Ok(())
+    }
+
+    /// Begins a block that receives from a channel that may be closed. Its lines are for an item. A party without one gives the
+    /// token back.
+    fn begin_receipt(
+        &mut self,
+        how: Receipt,
+        channel: usize,
+        any: usize,
+    ) -> Result<(), AllocError> {
+        let past = match how {
+            Receipt::While => self.open_loop()?,
+            Receipt::Try | Receipt::If => self.label()?,
+        };
+        let (token, inside, closed) = (self.label()?, self.label()?, self.label()?);
+        let (row, most) = (self.names.counter_row(any), self.counter(any).most);
+        match how {
+            Receipt::Try => self.place(Act::Choose(Block::TryTake(row)), token, past)?,
+            Receipt::If | Receipt::While => {
+                self.place(Act::Signal(Signal::Take(row)), token, token)?;
+            }
+        }
+        let item = self.names.counter_row(channel);
+        self.place(Act::Choose(Block::TryTake(item)), inside, closed)?;
+        self.here = closed;
+        self.place(Act::Signal(Signal::Add(row, most)), past, past)?;
+        self.here = inside;
+        match how {
+            Receipt::While => Ok(()),
+            Receipt::Try | Receipt::If => self.open_branch(past),
+        }
     }
 
     /// Adds the places of a wait: the release of the mutex and the sleep, and then the call that acquires the mutex again.
