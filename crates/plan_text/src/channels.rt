@@ -161,8 +161,10 @@ fn is_move(text: &Text, word: usize, is_up: bool) -> bool {
 
 impl Channels {
     fn add(&mut self, alloc: Global, text: &mut Text, line: Line) -> Result<(), TextFault> {
-        if let (Some(Role::Counter(CounterKind::Channel)), [_, name, room]) =
-            (role_of(text, line), text.fields(line)) {
+        if let (Some(Role::Counter(CounterKind::Channel)), [_, name, room]) = (
+            role_of(text, line),
+            text.fields(line),
+        ) {
             let (name, room) = (*name, *room);
             return self.declare(alloc, text, line, (name, room));
         }
@@ -200,7 +202,9 @@ impl Channels {
         let most = items.max(1);
         let mut digits = Buffer::new();
         let number = text.words.number(alloc, digits.format(most))?;
-        let next = text.words.number(alloc, digits.format(most.saturating_add(1)))?;
+        let next = text
+            .words
+            .number(alloc, digits.format(most.saturating_add(1)))?;
         let (_, is_new) = self.names.insert_full(name)?;
         if is_new {
             self.channels.push(channel)?;

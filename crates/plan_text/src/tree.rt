@@ -233,16 +233,7 @@ impl Tree {
                 let any = self.names.words.any(alloc, name)?;
                 self.add_copy(name, any)?;
             }
-            Parties::Copies(count) => {
-                let text = String::from_str(alloc, self.names.words.text(name))?;
-                for copy in 0..count {
-                    let copied = self
-                        .names
-                        .words
-                        .copy(alloc, text.as_str(), copy.saturating_add(1))?;
-                    self.add_copy(name, copied)?;
-                }
-            }
+            Parties::Copies(count) => self.add_copies(alloc, name, count)?,
         }
         let count = self.names.parties.len().saturating_sub(first);
         for _party in 0..count {
@@ -257,6 +248,19 @@ impl Tree {
                 nodes,
             },
         )?;
+        Ok(())
+    }
+
+    /// Adds so many parties of the line with this name.
+    fn add_copies(&mut self, alloc: Global, name: usize, count: u64) -> Result<(), Refusal> {
+        let text = String::from_str(alloc, self.names.words.text(name))?;
+        for copy in 0..count {
+            let copied = self
+                .names
+                .words
+                .copy(alloc, text.as_str(), copy.saturating_add(1))?;
+            self.add_copy(name, copied)?;
+        }
         Ok(())
     }
 
@@ -434,10 +438,8 @@ impl Tree {
     /// Turns to the blocks that are open after a line of a party.
     fn turn_blocks(&mut self, line: LineAt, form: Form, said: Said) -> Result<(), Refusal> {
         let begun = match said {
-            Said::Repeat
-            | Said::Forever
-            | Said::Until(_)
-            | Said::Receipt(Receipt::While, _, _) => OpenPart::Loop,
+            Said::Repeat | Said::Forever | Said::Until(_) | Said::Receipt(Receipt::While, _, _) =>
+                OpenPart::Loop,
             Said::Try(..) | Said::TryMove(..) | Said::If(_) | Said::Receipt(..) => OpenPart::First,
             Said::Either | Said::Pick(_, Written::Block) => OpenPart::Either,
             Said::Invoke(..) => OpenPart::Call,
