@@ -200,17 +200,13 @@ class Plan(NamedTuple):
 
 def read_plan(text):
     """The plan of these bytes, or a fault."""
-    lines = text.decode("latin-1").removesuffix("\n").split("\n") if text else []
-    words = [(number, WORD.findall(line.partition("#")[0])) for number, line in enumerate(lines, 1)]
-    words = [] if len(text) > LONGEST_INPUT else expanded([it for it in words if it[1]])
-    if len(text) > LONGEST_INPUT or length_of(words) > LONGEST_INPUT:
-        raise Fault("input too long")
+    words, last = expanded_lines(text)
     plan = Plan({}, {}, [], [], [], [], [], {})
     for number, fields in words:
         if not read_line(plan, number, fields):
             raise Fault(f"bad line {str(number).split()[0]}")
     if plan.open or not words:
-        raise Fault(f"bad line {len(lines) + 1}")
+        raise Fault(f"bad line {last + 1}")
     names = {it.name for it in plan.parties}
     for mention in plan.mentions:
         if mention.name not in names:
@@ -221,6 +217,16 @@ def read_plan(text):
     for party in plan.parties:
         find_holds(plan, party)
     return plan
+
+
+def expanded_lines(text):
+    """The lines with words, each a number and its words, with those that are short for several expanded; and how many lines the text has."""
+    lines = text.decode("latin-1").removesuffix("\n").split("\n") if text else []
+    words = [(number, WORD.findall(line.partition("#")[0])) for number, line in enumerate(lines, 1)]
+    found = [] if len(text) > LONGEST_INPUT else expanded([it for it in words if it[1]])
+    if len(text) > LONGEST_INPUT or length_of(found) > LONGEST_INPUT:
+        raise Fault("input too long")
+    return found, len(lines)
 
 
 def fault_of(number, why):
