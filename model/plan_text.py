@@ -734,10 +734,11 @@ def looks_of(at, line, yes, no):
 
 def receipt_of(at, line, inside, outside):
     """The steps of a block that receives from a channel that may be closed, with where they lead. They lie between the line and the next one."""
-    is_try, item, none = line.word == "try receipt", at + 1 / 3, at + 2 / 3
+    is_try, look, item, none = line.word == "try receipt", at + 1 / 4, at + 2 / 4, at + 3 / 4
     token = line._replace(name=f"{line.name}.any")
     return {
-        at: (token._replace(word="try take" if is_try else "take"), item, outside if is_try else None),
+        at: (token._replace(word="try take" if is_try else "take"), item, look if is_try else None),
+        **({look: (line._replace(word="if"), at, outside)} if is_try else {}),
         item: (line._replace(word="try receive"), inside, none),
         none: (token._replace(word="add"), outside, None),
     }
