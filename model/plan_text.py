@@ -47,23 +47,37 @@ GATES = {
     "await latch": ["lock @", "wait @ @ until @ < 1", "unlock @"],
     "count_down latch": ["lock @", "try take @", "end", "notify_all @", "unlock @"],
 }
+# the lines for which those of channels and their calls stand: those that begin with `0` only without room, and those with `!` only of a channel that may be closed;
+# `?` begins a block that receives from such a one
+CHANNELS = {
+    "channel": ["channel @ #", "0 counter @.turn 1 = 1", "0 counter @.ack 1", "! counter @.any +", "! flag @.closed"],
+    "send": ["! assert not @.closed", "0 take @.turn", "send @", "! add @.any", "0 take @.ack", "0 add @.turn"],
+    "try send": ["! assert not @.closed", "try send @", "! add @.any"],
+    "receive": ["receive @", "0 add @.ack"],
+    "try receive": ["try receive @", "0 add @.ack"],
+    "receive!": ["take @.any", "try receive @", "0 add @.ack", "else", "add @.any", "end"],
+    **{f"{it} receive!": [f"? {it} receive @", "0 add @.ack"] for it in ("try", "if", "while")},
+    "close!": ["assert not @.closed", "set @.closed", "add @.any"],
+}
 # lines of one word, each of a block
 BLOCK_WORDS = {"repeat", "forever", "either", "else", "or", "end", "leave", "return"}
 # words of a text with which a block begins, lines with which one begins, and those of them to which a party comes back at its end
-BLOCKS = {"repeat", "forever", "either", "try", "if"}
-BEGINS = {*BLOCKS, "until", "timed sleep", "pick", "enter", *(f"try {it}" for it in MOVES)}
-LOOPS = {"repeat", "until", "forever"}
+BLOCKS = {"repeat", "forever", "either", "try", "if", "while"}
+# lines with which a block begins that receives from a channel that may be closed
+RECEIPTS = {"try receipt", "if receipt", "while receipt"}
+BEGINS = {*BLOCKS, *RECEIPTS, "until", "timed sleep", "pick", "enter", *(f"try {it}" for it in MOVES)}
+LOOPS = {"repeat", "until", "forever", "while receipt"}
 # what a line in the midst of a block makes of it, by the line with which the block began or went on; and what may come before its end
 TURNS = {("else", "try"): "else", ("else", "if"): "else", ("else", "timed sleep"): "else", ("or", "either"): "or", ("or", "or"): "or", ("or", "pick"): "or"}
-TURNS |= {("else", f"try {it}"): "else" for it in MOVES}
-ENDS = {*LOOPS, "try", "if", "else", "or", "enter", "def", *(f"try {it}" for it in MOVES)}
+TURNS |= {("else", it): "else" for it in ("try receipt", "if receipt", *(f"try {it}" for it in MOVES))}
+ENDS = {*LOOPS, *RECEIPTS, "try", "if", "else", "or", "enter", "def", *(f"try {it}" for it in MOVES)}
 PARTS = {"else", "or", "end"}
 # words of a condition with several looks, which no flag of it may have for a name
 BETWEEN_LOOKS = {"not", "and", "or", "timeout"}
 SLEEPS = {"sleep", "timed sleep"}
 LOCK_LINES = {"mutex", "rwlock", "reentrant"}
 COUNTER_LINES = {"flag", "counter", "semaphore", "channel"}
-DECLARED = {*LOCK_LINES, *COUNTER_LINES, "condvar"}
+DECLARED = {*LOCK_LINES, *COUNTER_LINES, "condvar", "barrier", "latch"}
 WORD = re.compile(r"[^ \t\r]+")
 NAME = re.compile(r"[A-Za-z0-9_.-]+")
 LIMIT = re.compile(r"[1-9][0-9]{0,9}")
@@ -186,17 +200,13 @@ class Plan(NamedTuple):
 
 def read_plan(text):
     """The plan of these bytes, or a fault."""
-    lines = text.decode("latin-1").removesuffix("\n").split("\n") if text else []
-    words = [(number, WORD.findall(line.partition("#")[0])) for number, line in enumerate(lines, 1)]
-    words = [] if len(text) > LONGEST_INPUT else expanded([it for it in words if it[1]])
-    if len(text) > LONGEST_INPUT or length_of(words) > LONGEST_INPUT:
-        raise Fault("input too long")
+    words, last = expanded_lines(text)
     plan = Plan({}, {}, [], [], [], [], [], {})
     for number, fields in words:
         if not read_line(plan, number, fields):
             raise Fault(f"bad line {str(number).split()[0]}")
     if plan.open or not words:
-        raise Fault(f"bad line {len(lines) + 1}")
+        raise Fault(f"bad line {last + 1}")
     names = {it.name for it in plan.parties}
     for mention in plan.mentions:
         if mention.name not in names:
@@ -209,6 +219,16 @@ def read_plan(text):
     return plan
 
 
+def expanded_lines(text):
+    """The lines with words, each a number and its words, with those that are short for several expanded; and how many lines the text has."""
+    lines = text.decode("latin-1").removesuffix("\n").split("\n") if text else []
+    words = [(number, WORD.findall(line.partition("#")[0])) for number, line in enumerate(lines, 1)]
+    found = [] if len(text) > LONGEST_INPUT else expanded([it for it in words if it[1]])
+    if len(text) > LONGEST_INPUT or length_of(found) > LONGEST_INPUT:
+        raise Fault("input too long")
+    return found, len(lines)
+
+
 def fault_of(number, why):
     """The fault of a line with this number, which names the calls around it."""
     line, *calls = str(number).split(" from ")
@@ -217,10 +237,11 @@ def fault_of(number, why):
 
 def expanded(lines):
     """The lines, each a number and its words, with those that are short for several expanded."""
-    found = for_copies([it for line in with_gates(with_functions(lines)) for it in rows(*line)])
+    found = for_copies([it for line in with_functions(lines) for it in rows(*line)])
     heads = [at for at, (_, words) in enumerate(found) if words[0] in ("party", "server")]
     parts = [found[begin:end] for begin, end in itertools.pairwise([*heads, len(found)])]
     found = [*found[: heads[0] if heads else None], *[it for part in parts for it in by_index(part)]]
+    found = with_channels(with_gates(found))
     locks = {words[1] for _, words in found if words[0] in LOCK_LINES and len(words) > 1}
     return turns(with_picks(found, locks, {}))
 
@@ -290,6 +311,40 @@ def with_gates(lines):
         made = [(number, it.replace("#", most).replace("@", name).split()) for it in GATES.get(which, [])]
         found += made or [(number, words)]
     return found
+
+
+def with_channels(lines):
+    """The lines, with those of channels without room, and of channels that may be closed, in the place of theirs."""
+    closed = {words[-1] for _, words in lines if words[:-1] in (["close"], ["if", "receive"], ["while", "receive"])}
+    channels, found = {}, []
+    for number, words in lines:
+        room = whole_of(words[2]) if words[0] == "channel" and len(words) == 3 and NAME.fullmatch(words[1]) else -1
+        name = words[1] if room >= 0 else words[-1]
+        if room >= 0:
+            channel = (room == 0, room < MOST_COPIES and name in closed)
+            channels.setdefault(name, channel)
+        else:
+            channel = channels.get(name, (False, False))
+        call = "channel" if room >= 0 else " ".join(words[:-1])
+        call = f"{call}!" if channel[1] and f"{call}!" in CHANNELS else call
+        if not any(channel) or call not in CHANNELS:
+            found.append((number, words))
+        elif call == "try send" and channel[0]:
+            found.append((number, ["try", "send", "without", "room"]))
+        else:
+            found += [(number, it) for it in channel_lines(call, name, room, *channel)]
+    return found
+
+
+def channel_lines(call, name, room, is_offered, is_closed):
+    """The words of each line for which a call of a channel stands, or the line that declares one."""
+    has = {"0": is_offered, "!": is_closed, "?": True}
+    for template in CHANNELS[call]:
+        mark, _, rest = template.partition(" ")
+        words = [it.replace("@", name) for it in (rest if mark in has else template).split()]
+        words = [{"#": str(max(room, 1)), "+": str(max(room, 1) + 1)}.get(it, it) for it in words]
+        if has.get(mark, True):
+            yield [Block(words[0]), *words[1:]] if mark == "?" else words
 
 
 def with_picks(lines, locks, others):
@@ -453,6 +508,8 @@ def lines_of(plan, number, words):
             return [Line(number, "set", name=name, number_asked=int(value))]
         case [word, name] if word in MOVES and has_kind(plan, name, MOVES[word][0]):
             return [Line(number, word, name=name)]
+        case [word, "receive", name] if isinstance(word, Block) and has_kind(plan, name, "channel") and has_kind(plan, f"{name}.any", "counter"):
+            return [Line(number, f"{word} receipt", name=name)]
         case ["try", word, name] if word in MOVES and has_kind(plan, name, MOVES[word][0]):
             return [Line(number, f"try {word}", name=name)]
         case [("notify_one" | "notify_all") as word, name] if name in plan.condvars:
@@ -652,7 +709,9 @@ def places(lines):
                 continue
             is_branch = word in BEGINS - {"forever"}
             outside = (leave if past is None else past) if is_branch else None
-            if lines[at].test:
+            if word in RECEIPTS:
+                ways |= receipt_of(at, lines[at], after, outside)
+            elif lines[at].test:
                 ways |= looks_of(at, lines[at], *((outside, after) if word == "until" else (after, outside)))
             else:
                 ways[at] = lines[at], after, outside
@@ -671,6 +730,18 @@ def looks_of(at, line, yes, no):
             is_not = no if end == begins[-1] else at + end / begins[-1]
             found[at + look / begins[-1]] = line._replace(word="if", name=name, number_asked=asked, test=()), *((is_so, is_not) if value else (is_not, is_so))
     return found
+
+
+def receipt_of(at, line, inside, outside):
+    """The steps of a block that receives from a channel that may be closed, with where they lead. They lie between the line and the next one."""
+    is_try, look, item, none = line.word == "try receipt", at + 1 / 4, at + 2 / 4, at + 3 / 4
+    token = line._replace(name=f"{line.name}.any")
+    return {
+        at: (token._replace(word="try take" if is_try else "take"), item, look if is_try else None),
+        **({look: (line._replace(word="if"), at, outside)} if is_try else {}),
+        item: (line._replace(word="try receive"), inside, none),
+        none: (token._replace(word="add"), outside, None),
+    }
 
 
 def find_holds(plan, party):

@@ -27,13 +27,14 @@ SPOILS = [
     "", " ", "\n", "x", "0", "\r", "\u00e9", " bar", " fair", "4294967296", "lock0", "party p1\n", "server p 2\n", "mutex lock0\n",
     "end\n", " not", " until flag0", " or flag0", " true", "flag flag0\n", "condvar cond0\n", "start p1\n", " or timeout", " *", "[i]", "[i+1]", "[2]", " 2",
     "repeat 2\n", "leave\n", "return\n", "repeat 1\n", "def f0 x\n", "call f0\n", "call f0 lock0\n", "pick y of row\n", " and flag0", " and not flag1",
-    "add count0\n", "receive count0\n", " = 1", " >= 2", "counter count0 2\n", "try take count0\n",
+    "close count0\n", "channel count0 0\n", "while receive count0\n", "add count0\n", "receive count0\n", " = 1", " >= 2", "counter count0 2\n", "try take count0\n",
 ]
 STRAY_BLOCKS = ["repeat", "either", "else", "or", "end", "forever", "repeat 2", "leave", "return", "repeat 1", "def f9", "call f0", "pick y of row"]
 STRAY_SIGNALS = [
     "set flag0", "if flag0", "if not flag0", "wait cond0 lock0", "start p1", "join p9", "notify_all cond0", "assert flag0", "repeat until flag0",
     "wait cond0 lock0 until flag0 or timeout", "start p2 *", "join p1 *",
     "repeat until flag0 or not flag1", "wait cond0 lock0 until flag0 or flag1 or timeout", "if flag0 and not flag1 or flag1",
+    "close count0", "if receive count1", "while receive count0", "while count0", "try send count0", "barrier gate[2] 2", "await gate.1",
     "await gate0", "count_down gate0", "await count0", "barrier lock0 2", "latch gate1 x", "add count0", "acquire count0", "try send count0", "set count0 1", "set flag0 1", "if count0 >= 1", "assert count0 < 1", "assert flag0 or flag1", "if flag0 = 1",
 ]
 ACQUISITIONS = [("read", "shared"), ("read", "shared"), ("write", "exclusive"), ("upgradable_read", "upgradable")]
@@ -109,21 +110,24 @@ def random_signals(rng, lines, kinds, heads):
     """The names for signals; adds the lines of flags and condition variables, and makes a lock a mutex."""
     kinds["lock0"], lines[0] = "mutex", lock_line(rng, "lock0", "mutex", 1)
     flags = [f"flag{it}" for it in range(rng.randint(0, 2))]
-    counters = {f"count{it}": rng.choice(["counter", "counter", "semaphore", "channel"]) for it in range(rng.choice([0, 0, 1, 1, 2]))}
+    counters = {f"count{it}": rng.choice(["counter", "counter", "semaphore", "channel", "channel"]) for it in range(rng.choice([0, 0, 1, 1, 2]))}
     condvars = [f"cond{it}" for it in range(rng.choice([0, 1, 1, 2]))]
     lines += [f"flag {it}{rng.choice(['', '', ' true'])}" for it in flags] + [f"condvar {it}" for it in condvars]
     lines += [counter_line(rng, *it) for it in counters.items()]
     parties = [name for _, names in heads for name in names]
     unstarted = {it for it in parties if rng.random() < 0.4}
     unstarted |= {name for _, names in heads if len(names) > 1 and rng.random() < 0.3 for name in names}
-    gates = {f"gate{it}": rng.choice(["barrier", "latch"]) for it in range(rng.choice([0, 0, 0, 1]))}
-    lines += [f"{kind} {it} {rng.choice([1, 2, 2])}" for it, kind in gates.items()]
+    gates, gate = {}, rng.choice(["", "", "", "gate0", "gate[2]"])
+    if gate:
+        kind = rng.choice(["barrier", "latch"])
+        gates = {it: kind for it in (["gate.1", "gate.2"] if "[" in gate else [gate])}
+        lines.append(f"{kind} {gate} {rng.choice([1, 2, 2])}")
     return Signals(flags, counters, gates, condvars, parties, unstarted)
 
 
 def counter_line(rng, name, kind):
     """The line of a counter, a semaphore or a channel."""
-    most = rng.choice([1, 1, 2, 3])
+    most = rng.choice([1, 1, 2, 3] if kind != "channel" else [0, 0, 1, 2])
     last = {"counter": ["", f" = {rng.randint(0, most)}"], "semaphore": ["", f" {most + rng.randint(0, 1)}"], "channel": [""]}
     return f"{kind} {name} {most}{rng.choice(last[kind])}"
 
@@ -354,6 +358,7 @@ class Maker(NamedTuple):
             name = rng.choice([*signals.counters])
             moves = [word for word, (kind, _) in MOVES.items() if kind == signals.counters[name] or rng.random() < 0.01]
             found += [f"{rng.choice(moves)} {name}", f"{rng.choice(moves)} {name}", f"set {name} {rng.choice([0, 1])}"]
+            found += 2 * [f"close {name}"] if signals.counters[name] == "channel" and rng.random() < 0.5 else []
             found += [f"assert {look(rng, signals)}{rng.choice(['', '', f' and {look(rng, signals)}'])}"] if rng.random() < 0.4 else []
         found += [f"{rng.choice(['await', 'count_down'] if kind == 'latch' or rng.random() < 0.05 else ['await'])} {it}" for it, kind in signals.gates.items()]
         if signals.condvars:
@@ -366,6 +371,9 @@ class Maker(NamedTuple):
 
     def block(self, held):
         """A block of a party with these holds, which has the same ones after it."""
+        channels = [name for name, kind in self.signals.counters.items() if kind == "channel"] if self.signals else []
+        if channels and self.rng.random() < 0.4:
+            return self.receipt(self.rng.choice(channels), held)
         word = self.rng.choice(["repeat", "repeat", "either", "try"])
         if word == "repeat":
             return self.loop(held)
@@ -385,6 +393,13 @@ class Maker(NamedTuple):
         undone = "downgrade_to_upgradable" if given else RELEASES[self.kinds[lock]][taken]
         after = [it for it in held if it != (lock, given)] + [(lock, taken)]
         return [f"try {word} {lock}", *self.part(after), f"{undone} {lock}", *self.other_part(held), "end"]
+
+    def receipt(self, name, held):
+        """A block of a party with these holds that receives from a channel that may be closed."""
+        if self.rng.random() < 0.5:
+            return [f"if receive {name}", *self.part(held), *self.other_part(held), "end"]
+        ways_out = self.way_out(held, False) if self.rng.random() < 0.3 else []
+        return [f"while receive {name}", *self.part(held), *ways_out, "end"]
 
     def other_part(self, held):
         """The `else` of a party with these holds and the lines below it, or nothing."""

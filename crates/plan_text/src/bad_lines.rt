@@ -1,4 +1,5 @@
 //! The bad lines of a text.
+use crate::counter::CounterKind;
 use crate::fault::{BadLine, TextFault};
 use crate::forms::Role;
 use crate::line_fault::{LineFault, NameKind};
@@ -144,6 +145,8 @@ pub(crate) fn word_of(words: &Words, fields: &[usize], fault: LineFault) -> usiz
         | LineFault::NotAbove(word)
         | LineFault::TooHigh(word, _)
         | LineFault::NoGate(_, word)
+        | LineFault::NoTryOffer(word)
+        | LineFault::TooMuchRoom(word)
         | LineFault::StartedTwice(word) => after(fields, 1, word),
         LineFault::NoChoice(word) => after(fields, 3, word),
         LineFault::NotUtf8 => fields
@@ -172,7 +175,9 @@ fn first_name(words: &Words, fields: &[usize], kind: NameKind) -> usize {
     };
     match (role, kind) {
         (Some(Role::Wait), NameKind::Counter(_)) => 4,
-        (Some(Role::Wait), NameKind::Lock) | (Some(Role::Repeat), _) | (Some(Role::Try), _) => 2,
+        (Some(Role::Wait), NameKind::Lock)
+        | (Some(Role::If), NameKind::Counter(CounterKind::Channel))
+        | (Some(Role::Repeat | Role::Try | Role::While), _) => 2,
         _ => 1,
     }
 }

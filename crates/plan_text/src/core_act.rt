@@ -12,15 +12,7 @@ pub(crate) fn act(names: &Names, fields: &[usize]) -> Result<Act, LineFault> {
         return Err(LineFault::NoPlace);
     };
     match (names.words.text(*word), rest) {
-        ("try", [word, counter]) if names.words.is(*word, "add") => {
-            let (row, counter) = counter_of(names, *counter)?;
-            Ok(Act::Choose(Block::TryAdd(row, counter.most)))
-        }
-        ("try", [word, counter]) if names.words.is(*word, "take") => {
-            let (row, _) = counter_of(names, *counter)?;
-            Ok(Act::Choose(Block::TryTake(row)))
-        }
-        ("try", call) => Ok(Act::Try(read_call(names, call)?)),
+        ("try", rest) => tried(names, rest),
         ("repeat", []) => Ok(Act::Choose(Block::Repeat)),
         ("either", []) => Ok(Act::Choose(Block::Either)),
         ("if", look) => {
@@ -46,6 +38,21 @@ pub(crate) fn act(names: &Names, fields: &[usize]) -> Result<Act, LineFault> {
             None => Ok(Act::Call(read_call(names, fields)?)),
         },
         _ => Ok(Act::Call(read_call(names, fields)?)),
+    }
+}
+
+/// Reads a try of these words.
+fn tried(names: &Names, fields: &[usize]) -> Result<Act, LineFault> {
+    match fields {
+        [word, counter] if names.words.is(*word, "add") => {
+            let (row, counter) = counter_of(names, *counter)?;
+            Ok(Act::Choose(Block::TryAdd(row, counter.most)))
+        }
+        [word, counter] if names.words.is(*word, "take") => {
+            let (row, _) = counter_of(names, *counter)?;
+            Ok(Act::Choose(Block::TryTake(row)))
+        }
+        call => Ok(Act::Try(read_call(names, call)?)),
     }
 }
 

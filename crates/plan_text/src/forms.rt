@@ -29,6 +29,8 @@ pub(crate) enum Role {
     Call(bool, LockStep),
     /// Moves a counter of this kind up, or down.
     Move(CounterKind, bool),
+    /// Closes a channel.
+    Close,
     Set,
     Clear,
     Assert,
@@ -40,6 +42,8 @@ pub(crate) enum Role {
     Start,
     Join,
     Repeat,
+    /// Receives from a channel until it is closed.
+    While,
     Forever,
     Leave,
     Return,
@@ -53,7 +57,7 @@ pub(crate) enum Role {
 }
 
 /// All words that lines begin with. A word's number in [`Words`](crate::words::Words) is its place here.
-pub(crate) static FORMS: [Form; 56] = [
+pub(crate) static FORMS: [Form; 58] = [
     Form("mutex", "NAME [fair]", Role::Lock(Kind::Mutex)),
     Form(
         "rwlock",
@@ -163,7 +167,7 @@ pub(crate) static FORMS: [Form; 56] = [
     Form("either", "", Role::Either),
     Form("or", "", Role::Or),
     Form("try", "CALL NAME", Role::Try),
-    Form("if", "CONDITION", Role::If),
+    Form("if", "CONDITION | receive CHANNEL", Role::If),
     Form("else", "", Role::Else),
     Form("end", "", Role::End),
     Form("def", "NAME [PARAMETER..]", Role::Define),
@@ -206,4 +210,6 @@ pub(crate) static FORMS: [Form; 56] = [
     Form("latch", "NAME COUNT", Role::Latch),
     Form("await", "BARRIER | LATCH", Role::Await),
     Form("count_down", "LATCH", Role::CountDown),
+    Form("close", "CHANNEL", Role::Close),
+    Form("while", "receive CHANNEL", Role::While),
 ];

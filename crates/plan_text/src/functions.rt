@@ -7,7 +7,7 @@ use crate::line_list::LineList;
 use crate::names::NameSet;
 use crate::origin::LineAt;
 use crate::repeated::{Part, part_of};
-use crate::stands::Stands;
+use crate::replacements::Replacements;
 use indexmap::IndexSet;
 use script_text::SCRIPT_LIMIT;
 use std::alloc::{AllocError, Global};
@@ -30,7 +30,7 @@ struct Calls<'a> {
     functions: Vec<Function>,
     /// The number of the function of each call that is written out.
     callees: Vec<usize>,
-    stands: Stands,
+    replacements: Replacements,
     /// The lines that come next, in reverse.
     pending: Vec<Line>,
     made: LineList,
@@ -52,7 +52,7 @@ pub(crate) fn written_out(
         names: IndexSet::new(alloc),
         functions: Vec::new(alloc),
         callees: Vec::new(alloc),
-        stands: Stands::new(alloc, text)?,
+        replacements: Replacements::new(alloc, text)?,
         pending: Vec::new(alloc),
         made: LineList::new(alloc),
     };
@@ -157,21 +157,21 @@ impl Calls<'_> {
         self.bind(text, function.head, line)?;
         for at in (function.first..function.end).rev() {
             if let Some(inside) = self.lines.get(at) {
-                let inside = text.replaced(&self.stands, *inside, 1)?;
+                let inside = text.replaced(&self.replacements, *inside, 1)?;
                 let number = inside.at.number;
                 let at = LineAt { number, call };
                 self.pending.push(Line { at, ..inside })?;
             }
         }
-        self.stands.release(0);
+        self.replacements.release(0);
         Ok(())
     }
 
-    /// Has the parameters of a function stand for the arguments of a call.
+    /// Replaces the parameters of a function by the arguments of a call.
     fn bind(&mut self, text: &Text, head: Line, call: Line) -> Result<(), AllocError> {
         let parameters = text.fields(head).iter().skip(2);
         for (parameter, argument) in parameters.zip(text.fields(call).iter().skip(2)) {
-            self.stands.bind(0, *parameter, *argument)?;
+            self.replacements.bind(0, *parameter, *argument)?;
         }
         Ok(())
     }

@@ -5,28 +5,28 @@ use crate::line::{Line, Text};
 use crate::line_list::LineList;
 use crate::names::NameSet;
 use crate::reading::number;
+use crate::templates::{Filling, Template, filled};
 use indexmap::IndexSet;
 use std::alloc::{AllocError, Global};
 use std::mem::replace;
 
-/// Lines that stand for another one. `@` is its name, `@.turn` a name beside it, and `#` its number.
-type Template = &'static [&'static [&'static str]];
+type Templates = &'static [Template];
 
-static BARRIER: [&[&str]; 4] = [
+static BARRIER: [Template; 4] = [
     &["mutex", "@"],
     &["counter", "@", "#"],
     &["flag", "@.turn"],
     &["condvar", "@"],
 ];
 
-static LATCH: [&[&str]; 3] = [
+static LATCH: [Template; 3] = [
     &["mutex", "@"],
     &["counter", "@", "#", "=", "#"],
     &["condvar", "@"],
 ];
 
 /// The last party gives the counter back its first value, and turns the flag over. The others sleep until the flag is turned.
-static AWAIT_BARRIER: [&[&str]; 18] = [
+static AWAIT_BARRIER: [Template; 18] = [
     &["lock", "@"],
     &["add", "@"],
     &["if", "@", ">=", "#"],
@@ -47,13 +47,13 @@ static AWAIT_BARRIER: [&[&str]; 18] = [
     &["unlock", "@"],
 ];
 
-static AWAIT_LATCH: [&[&str]; 3] = [
+static AWAIT_LATCH: [Template; 3] = [
     &["lock", "@"],
     &["wait", "@", "@", "until", "@", "<", "1"],
     &["unlock", "@"],
 ];
 
-static COUNT_DOWN: [&[&str]; 5] = [
+static COUNT_DOWN: [Template; 5] = [
     &["lock", "@"],
     &["try", "take", "@"],
     &["end"],
@@ -69,7 +69,7 @@ struct Gates {
     made: LineList,
 }
 
-/// Puts the lines for which those of barriers and latches stand in their place.
+/// Puts the lines of barriers and latches in the place of theirs.
 pub(crate) fn with_gates(
     alloc: Global,
     text: &mut Text,
@@ -88,11 +88,16 @@ pub(crate) fn with_gates(
 
 impl Gates {
     fn add(&mut self, alloc: Global, text: &mut Text, line: Line) -> Result<(), TextFault> {
-        match self.template(text, line)? {
+        match self.templates(text, line)? {
             None => self.made.push(line),
-            Some((template, name, number)) => {
-                for words in template {
-                    let made = line_of(alloc, text, line, words, (name, number))?;
+            Some((templates, name, number)) => {
+                let filling = Filling {
+                    name,
+                    number,
+                    next: number,
+                };
+                for template in templates {
+                    let made = filled(alloc, text, line, *template, filling)?;
                     self.made.push(made)?;
                 }
                 Ok(())
@@ -100,12 +105,12 @@ impl Gates {
         }
     }
 
-    /// Returns the lines for which a line stands, and the words of its name and number. Adds the barrier or latch of its line.
-    fn template(
+    /// Returns the templates of a line, and the words of its name and number. Adds the barrier or latch that it declares.
+    fn templates(
         &mut self,
         text: &Text,
         line: Line,
-    ) -> Result<Option<(Template, usize, usize)>, AllocError> {
+    ) -> Result<Option<(Templates, usize, usize)>, AllocError> {
         let [word, name, rest @ ..] = text.fields(line) else {
             return Ok(None);
         };
@@ -121,57 +126,31 @@ impl Gates {
                 if is_new {
                     self.gates.push((role, *most))?;
                 }
-                let template: Template = if role == Role::Latch {
+                let templates: Templates = if role == Role::Latch {
                     &LATCH
                 } else {
                     &BARRIER
                 };
-                Some((template, *name, *most))
+                Some((templates, *name, *most))
             }
-            (role @ (Role::Await | Role::CountDown), []) => self.call_template(role, *name),
+            (role @ (Role::Await | Role::CountDown), []) => self.call_templates(role, *name),
             _ => None,
         })
     }
 
-    /// Returns the lines for which a call of a barrier or a latch stands.
-    fn call_template(&self, role: Role, name: usize) -> Option<(Template, usize, usize)> {
+    /// Returns the templates of a call of a barrier or a latch.
+    fn call_templates(&self, role: Role, name: usize) -> Option<(Templates, usize, usize)> {
         let (gate, most) = self.gates.get(self.names.get_index_of(&name)?)?;
-        let template: Template = match (role, *gate) {
+        let templates: Templates = match (role, *gate) {
             (Role::Await, Role::Latch) => &AWAIT_LATCH,
             (Role::Await, _) => &AWAIT_BARRIER,
             (_, Role::Latch) => &COUNT_DOWN,
             _ => return None,
         };
-        Some((template, name, *most))
+        Some((templates, name, *most))
     }
 }
 
 fn is_positive(text: &Text, word: usize) -> bool {
     number(text.words.text(word)).is_some_and(|number| number > 0)
-}
-
-/// Makes a line of a template in the place of another line.
-fn line_of(
-    alloc: Global,
-    text: &mut Text,
-    line: Line,
-    words: &[&str],
-    named: (usize, usize),
-) -> Result<Line, AllocError> {
-    let (name, number) = named;
-    let first = text.next();
-    for word in words {
-        let word = match *word {
-            "@" => name,
-            "#" => number,
-            "@.turn" => {
-                let mut turn = String::from_str(alloc, text.words.text(name))?;
-                turn.push_str(".turn")?;
-                text.words.number(alloc, turn.as_str())?
-            }
-            word => text.words.number(alloc, word)?,
-        };
-        text.push(word)?;
-    }
-    Ok(text.line(line.at, first, line.is_utf8))
 }

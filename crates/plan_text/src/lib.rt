@@ -8,6 +8,7 @@
 mod alike;
 mod bad_lines;
 mod begun;
+mod channels;
 mod core_act;
 mod core_plan;
 mod core_reading;
@@ -30,12 +31,13 @@ mod places;
 mod programs;
 mod reading;
 mod repeated;
+mod replacements;
 mod rows;
 mod said;
 mod scan;
 mod spot;
 mod spread;
-mod stands;
+mod templates;
 mod tree;
 mod words;
 

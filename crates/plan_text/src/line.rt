@@ -1,7 +1,7 @@
 //! Lines of words.
 use crate::forms::Role;
 use crate::origin::LineAt;
-use crate::stands::Stands;
+use crate::replacements::Replacements;
 use crate::words::Words;
 use std::alloc::{AllocError, Global};
 
@@ -17,14 +17,16 @@ pub(crate) struct Line {
     pub(crate) written: Written,
 }
 
-/// Whether a `call` or a `pick` is written out.
+/// Whether the lines below a line are those that it is short for.
 #[derive(Clone, Copy, PartialEq, Eq)]
 pub(crate) enum Written {
     No,
     /// What the line says is in the lines below it.
     Inline,
-    /// The lines below it, up to an `end`, are those that it stands for.
+    /// What the line says is in the lines below it, up to an `end`.
     Block,
+    /// No lines say it.
+    Refused,
 }
 
 impl Line {
@@ -125,22 +127,22 @@ impl Text {
         Ok(self.line(line.at, begin, true))
     }
 
-    /// Makes a line with the words for which those after its first ones stand.
+    /// Makes a line in which the words after its first ones are replaced.
     pub(crate) fn replaced(
         &mut self,
-        stands: &Stands,
+        replacements: &Replacements,
         line: Line,
         first: usize,
     ) -> Result<Line, AllocError> {
         let fields = self.fields(line);
-        if !fields.iter().any(|word| stands.word(*word).is_some()) {
+        if !fields.iter().any(|word| replacements.word(*word).is_some()) {
             return Ok(line);
         }
         let begin = self.next();
         for at in line.first..line.end {
             let word = self.fields.get(at).copied().unwrap_or(0);
             let other = if at >= line.first.saturating_add(first) {
-                stands.word(word)
+                replacements.word(word)
             } else {
                 None
             };

@@ -35,8 +35,8 @@ pub(crate) enum LineFault {
     NoIndex(usize),
     /// The lock of this word has no limit.
     NoLimit(usize),
-    /// The counter of this word has no greatest value.
-    NoMost(usize),
+    /// The counter of this word has no greatest value, which is at least this.
+    NoMost(usize, usize),
     /// A number is over the greatest value of the counter with this name.
     TooHigh(usize, usize),
     NoCount(usize),
@@ -52,6 +52,10 @@ pub(crate) enum LineFault {
     Arguments(usize, usize),
     /// A function calls this one, which is not above it.
     NotAbove(usize),
+    /// A try of a send on this channel, which has no room.
+    NoTryOffer(usize),
+    /// A channel that is closed has too much room.
+    TooMuchRoom(usize),
     /// No latch, or else no barrier or latch, has the name.
     NoGate(bool, usize),
     /// No lock is in the row, or only the one that is left out.
@@ -127,6 +131,10 @@ pub(crate) fn write_callers(text: &mut String, origin: Origin) -> Result<(), All
     Ok(())
 }
 
+/// The calls that may be tried.
+const TRIES: &str =
+    "a try is of lock, read, write, upgradable_read, upgrade, add, take, acquire, release, send or receive";
+
 /// A reason and the words that it names. It shows as the text that the program prints.
 #[derive(Clone, Copy)]
 struct Why<'a> {
@@ -148,85 +156,11 @@ impl fmt::Display for NameKind {
 
 impl fmt::Display for Why<'_> {
     fn fmt<W: fmt::Write>(&self, f: &mut fmt::Formatter<W>) -> fmt::Result {
-        let text = |word: usize| self.words.text(word);
         match self.fault {
             LineFault::NothingSaid => f.write_str("the plan says nothing"),
             LineFault::NotUtf8 => f.write_str("not UTF-8"),
-            LineFault::UnknownWord(word) => write!(f, "unknown word '{}'", text(word)),
-            LineFault::Misspelt(word, near) => {
-                write!(f, "unknown word '{}'; did you mean '{near}'?", text(word))
-            }
-            LineFault::Form(Form(word, "", _)) => write!(f, "'{word}' stands alone in its line"),
-            LineFault::Form(Form(word, form, _)) => write!(f, "write '{word} {form}'"),
-            LineFault::NoName(word) => write!(
-                f,
-                "'{}' is no name; a name has letters, digits, '_', '-' and '.'",
-                text(word)
-            ),
-            LineFault::NoRow(word) => write!(
-                f,
-                "'{}' is no row; write 'NAME[N]' with N from 1 to 64",
-                text(word)
-            ),
-            LineFault::NoIndex(word) => write!(
-                f,
-                "'{}' is no index; write 'X[i]' or 'X[i+K]' below 'party NAME COUNT'",
-                text(word)
-            ),
-            LineFault::NoLimit(word) => {
-                write!(f, "'{}' needs a limit from 1 to 4294967295", text(word))
-            }
-            LineFault::NoMost(word) => write!(f, "'{}' needs a number from 1 to 64", text(word)),
-            LineFault::TooHigh(name, most) => { write!(f, "'{}' is never over {most}", text(name)) }
-            LineFault::NoCount(word) => {
-                write!(f, "'{}' is no count from 1 to 64, and no '*'", text(word))
-            }
-            LineFault::NoCopies(word) => {
-                let name = text(word);
-                write!(f, "no copies of '{name}'; write 'party {name} COUNT'")
-            }
-            LineFault::NoTurns(word) => {
-                write!(f, "'{}' is no number of turns from 1 to 64", text(word))
-            }
-            LineFault::NotTried(word) => write!(
-                f,
-                "no try of '{}'; a try is of lock, read, write, upgradable_read, upgrade, add, take, acquire, release, send or receive",
-                text(word)
-            ),
-            LineFault::Unknown(kind, name) => write!(f, "no {kind} '{}'", text(name)),
-            LineFault::Taken(kind, name) => {
-                write!(f, "there is a {kind} '{}' already", text(name))
-            }
-            LineFault::Arguments(name, 1) => {
-                write!(f, "function '{}' has one parameter", text(name))
-            }
-            LineFault::Arguments(name, count) => {
-                write!(f, "function '{}' has {count} parameters", text(name))
-            }
-            LineFault::NotAbove(name) => write!(
-                f,
-                "function '{}' is not above the function that calls it",
-                text(name)
-            ),
-            LineFault::NoGate(true, name) => write!(f, "no latch '{}'", text(name)),
-            LineFault::NoGate(false, name) => { write!(f, "no barrier or latch '{}'", text(name)) }
-            LineFault::NoChoice(row) => write!(f, "no lock to pick in row '{}'", text(row)),
-            LineFault::TakenCopy(name) => write!(
-                f,
-                "there is a party with the name of a copy of '{}' already",
-                text(name)
-            ),
-            LineFault::InBlock(word, begin, line) => write!(
-                f,
-                "'{}' before the 'end' of '{begin}' of line {line}",
-                text(word)
-            ),
-            LineFault::NoParty(word) => write!(f, "'{}' above the first party", text(word)),
             LineFault::Unfit(text) => f.write_str(text),
             LineFault::TooDeep => f.write_str("more than 64 open blocks"),
-            LineFault::StartedTwice(name) => {
-                write!(f, "party '{}' is started already", text(name))
-            }
             LineFault::CopiesStart => f.write_str("'start' in a party with copies"),
             LineFault::LoopStarts => f.write_str("'start' in a loop"),
             LineFault::UnknownParty => f.write_str("unknown party"),
@@ -234,11 +168,136 @@ impl fmt::Display for Why<'_> {
             LineFault::NoPlace => f.write_str(
                 "write 'NUMBER ACT -> PLACE [| PLACE] [line N [from N]..]'",
             ),
-            LineFault::NoPlaceNumber(word, next) => {
-                write!(f, "'{}' in the place of {next}", text(word))
-            }
             LineFault::NoSuchPlace => f.write_str("a way leads to no place of its party"),
+            LineFault::NoPlaceNumber(word, next) => {
+                write!(f, "'{}' in the place of {next}", self.text(word))
+            }
             LineFault::NoEnd(word, line) => write!(f, "'{word}' of line {line} without 'end'"),
+            LineFault::InBlock(word, begin, line) => write!(
+                f,
+                "'{}' before the 'end' of '{begin}' of line {line}",
+                self.text(word)
+            ),
+            LineFault::Form(Form(word, "", _)) => write!(f, "'{word}' stands alone in its line"),
+            LineFault::Form(Form(word, form, _)) => write!(f, "write '{word} {form}'"),
+            _ => self.fmt_word(f),
         }
+    }
+}
+
+impl Why<'_> {
+    fn text(&self, word: usize) -> &str {
+        self.words.text(word)
+    }
+
+    /// Shows the reason of a line of which a word is wrong by itself.
+    fn fmt_word<W: fmt::Write>(&self, f: &mut fmt::Formatter<W>) -> fmt::Result {
+        match self.fault {
+            LineFault::UnknownWord(word) => write!(f, "unknown word '{}'", self.text(word)),
+            LineFault::Misspelt(word, near) => {
+                write!(
+                    f,
+                    "unknown word '{}'; did you mean '{near}'?",
+                    self.text(word)
+                )
+            }
+            LineFault::NoName(word) => self.quote(
+                f,
+                word,
+                "is no name; a name has letters, digits, '_', '-' and '.'",
+            ),
+            LineFault::NoRow(word) => {
+                self.quote(f, word, "is no row; write 'NAME[N]' with N from 1 to 64")
+            }
+            LineFault::NoIndex(word) => self.quote(
+                f,
+                word,
+                "is no index; write 'X[i]' or 'X[i+K]' below 'party NAME COUNT'",
+            ),
+            LineFault::NoLimit(word) => self.quote(f, word, "needs a limit from 1 to 4294967295"),
+            LineFault::NoMost(word, least) => {
+                write!(f, "'{}' needs a number from {least} to 64", self.text(word))
+            }
+            LineFault::NoCount(word) => {
+                self.quote(f, word, "is no count from 1 to 64, and no '*'")
+            }
+            LineFault::NoTurns(word) => {
+                self.quote(f, word, "is no number of turns from 1 to 64")
+            }
+            LineFault::NoParty(word) => self.quote(f, word, "above the first party"),
+            LineFault::NotTried(word) => write!(f, "no try of '{}'; {TRIES}", self.text(word)),
+            _ => self.fmt_name(f),
+        }
+    }
+
+    /// Shows the reason of a line with a name that is there, is not there, or is of something else.
+    fn fmt_name<W: fmt::Write>(&self, f: &mut fmt::Formatter<W>) -> fmt::Result {
+        match self.fault {
+            LineFault::Unknown(kind, name) => write!(f, "no {kind} '{}'", self.text(name)),
+            LineFault::Taken(kind, name) => {
+                write!(f, "there is a {kind} '{}' already", self.text(name))
+            }
+            LineFault::TakenCopy(name) => write!(
+                f,
+                "there is a party with the name of a copy of '{}' already",
+                self.text(name)
+            ),
+            LineFault::NoCopies(word) => {
+                let name = self.text(word);
+                write!(f, "no copies of '{name}'; write 'party {name} COUNT'")
+            }
+            LineFault::StartedTwice(name) => {
+                write!(f, "party '{}' is started already", self.text(name))
+            }
+            LineFault::Arguments(name, 1) => {
+                write!(f, "function '{}' has one parameter", self.text(name))
+            }
+            LineFault::Arguments(name, count) => {
+                write!(f, "function '{}' has {count} parameters", self.text(name))
+            }
+            LineFault::NotAbove(name) => write!(
+                f,
+                "function '{}' is not above the function that calls it",
+                self.text(name)
+            ),
+            _ => self.fmt_counted(f),
+        }
+    }
+
+    /// Shows the reason of a line with a counter, a channel, a barrier, a latch or a row that does not permit it.
+    fn fmt_counted<W: fmt::Write>(&self, f: &mut fmt::Formatter<W>) -> fmt::Result {
+        match self.fault {
+            LineFault::TooHigh(name, most) => {
+                write!(f, "'{}' is never over {most}", self.text(name))
+            }
+            LineFault::NoTryOffer(name) => {
+                write!(
+                    f,
+                    "no try of a send on '{}', which has no room",
+                    self.text(name)
+                )
+            }
+            LineFault::TooMuchRoom(name) => self.quote(
+                f,
+                name,
+                "is closed, and may have room for 63 items at most",
+            ),
+            LineFault::NoGate(true, name) => write!(f, "no latch '{}'", self.text(name)),
+            LineFault::NoGate(false, name) => {
+                write!(f, "no barrier or latch '{}'", self.text(name))
+            }
+            LineFault::NoChoice(row) => { write!(f, "no lock to pick in row '{}'", self.text(row)) }
+            _ => Ok(()),
+        }
+    }
+
+    /// Shows a word in quotes, and what is wrong with it.
+    fn quote<W: fmt::Write>(
+        &self,
+        f: &mut fmt::Formatter<W>,
+        word: usize,
+        why: &str,
+    ) -> fmt::Result {
+        write!(f, "'{}' {why}", self.text(word))
     }
 }

@@ -1,4 +1,5 @@
 //! Lines that are short for several, written out.
+use crate::channels::with_channels;
 use crate::fault::TextFault;
 use crate::functions::written_out;
 use crate::gates::with_gates;
@@ -38,18 +39,19 @@ impl LineList {
     }
 }
 
-/// Writes out the lines that are short for several: calls of functions, barriers and latches, rows, lines for all copies, parties with an index, picks,
-/// and repeated lines.
+/// Writes out the lines that are short for several: calls of functions, rows, lines for all copies, parties with an index,
+/// barriers and latches, channels, picks, and repeated lines.
 pub(crate) fn expand(
     alloc: Global,
     text: &mut Text,
     written: &[Line],
 ) -> Result<Vec<Line>, TextFault> {
     let called = written_out(alloc, text, written)?;
-    let gated = with_gates(alloc, text, called.as_slice())?;
-    let each = rows(alloc, text, gated.as_slice())?;
+    let each = rows(alloc, text, called.as_slice())?;
     let copies = spread(alloc, text, each.as_slice())?;
     let parties = indexed(alloc, text, copies.as_slice())?;
-    let picked = picked(alloc, text, parties.as_slice())?;
+    let gated = with_gates(alloc, text, parties.as_slice())?;
+    let channels = with_channels(alloc, text, gated.as_slice())?;
+    let picked = picked(alloc, text, channels.as_slice())?;
     repeated(alloc, text, picked.as_slice())
 }

@@ -62,32 +62,17 @@ fn wrong_field(words: &Words, word: usize, role: Role, fields: &[usize]) -> Opti
     let [name, last @ ..] = fields else {
         return None;
     };
-    let (name, last) = (*name, last);
+    let name = *name;
     match role {
-        Role::Lock(_) | Role::Counter(_) | Role::Condvar | Role::Barrier | Role::Latch
-            if !words.is_name(name) => {
+        Role::Lock(_) | Role::Counter(_) | Role::Condvar | Role::Barrier | Role::Latch => {
+            if words.is_name(name) {
+                return wrong_number(words, word, role, last);
+            }
             Some(if has_bracket(words, name) {
                 LineFault::NoRow(name)
             } else {
                 LineFault::NoName(name)
             })
-        }
-        Role::Lock(kind) => {
-            let is_right = match (kind, last) {
-                (Kind::Mutex, _) | (Kind::RwLock, []) => true,
-                (Kind::RwLock, [number, ..]) if !begins_by_digit(words.text(*number)) => true,
-                (Kind::Reentrant, []) => false,
-                (_, [number, ..]) => limit(words.text(*number)).is_some(),
-            };
-            (!is_right).then_some(LineFault::NoLimit(word))
-        }
-        Role::Counter(CounterKind::Flag) | Role::Condvar => None,
-        Role::Counter(_) | Role::Barrier | Role::Latch => {
-            let is_right = match last {
-                [] => false,
-                [most, ..] => number(words.text(*most)).is_some(),
-            };
-            (!is_right).then_some(LineFault::NoMost(word))
         }
         Role::Set if words.is_name(name) => None,
         Role::Define if !words.is_name(name) => Some(LineFault::NoName(name)),
@@ -103,14 +88,37 @@ fn wrong_field(words: &Words, word: usize, role: Role, fields: &[usize]) -> Opti
             _ => wrong_name(words, fields),
         },
         Role::Repeat if last.is_empty() && begins_by_digit(words.text(name)) => {
-            Some(match unsigned(words.text(name)) {
-                Some(turns) if 1 <= turns && turns <= 64 => {
-                    LineFault::Unfit("'repeat' without 'end'")
-                }
-                _ => LineFault::NoTurns(name),
-            })
+            Some(wrong_turns(words, name))
         }
         _ => wrong_name(words, fields),
+    }
+}
+
+/// Explains the number behind a name that a line declares, if it is wrong.
+fn wrong_number(words: &Words, word: usize, role: Role, last: &[usize]) -> Option<LineFault> {
+    let number = match last {
+        [number, ..] => words.text(*number),
+        [] => "",
+    };
+    match role {
+        Role::Lock(Kind::Mutex) | Role::Counter(CounterKind::Flag) | Role::Condvar => None,
+        Role::Lock(Kind::RwLock) if !begins_by_digit(number) => None,
+        Role::Lock(_) => limit(number).is_none().then_some(LineFault::NoLimit(word)),
+        _ => {
+            let least = usize::from(role != Role::Counter(CounterKind::Channel));
+            let is_wrong = self::number(number).is_none();
+            is_wrong.then_some(LineFault::NoMost(word, least))
+        }
+    }
+}
+
+/// Explains a `repeat` with a number that is not written out.
+fn wrong_turns(words: &Words, turns: usize) -> LineFault {
+    match unsigned(words.text(turns)) {
+        Some(number) if 1 <= number && number <= 64 => {
+            LineFault::Unfit("'repeat' without 'end'")
+        }
+        _ => LineFault::NoTurns(turns),
     }
 }
 

@@ -6,14 +6,14 @@ use crate::line::{Line, Text, Written};
 use crate::line_list::LineList;
 use crate::names::NameSet;
 use crate::repeated::{Part, part_of};
+use crate::replacements::Replacements;
 use crate::rows::MOST;
-use crate::stands::Stands;
 use indexmap::IndexSet;
 use script_text::SCRIPT_LIMIT;
 use std::alloc::{AllocError, Global};
 use std::mem::replace;
 
-/// What comes next: a line, or a name that stands for a lock.
+/// What comes next: a line, or a name that a lock replaces.
 #[derive(Clone, Copy)]
 enum Item {
     Line(Line),
@@ -25,7 +25,7 @@ enum Item {
 struct Picks {
     /// The names of all locks.
     locks: NameSet,
-    stands: Stands,
+    replacements: Replacements,
     /// How many blocks are open.
     depth: usize,
     /// The items that come next, in reverse.
@@ -44,7 +44,7 @@ pub(crate) fn picked(
     }
     let mut picks = Picks {
         locks: locks(alloc, text, lines)?,
-        stands: Stands::new(alloc, text)?,
+        replacements: Replacements::new(alloc, text)?,
         depth: 0,
         pending: Vec::new(alloc),
         made: LineList::new(alloc),
@@ -76,7 +76,7 @@ impl Picks {
         for _item in 0..SCRIPT_LIMIT {
             match self.pending.pop() {
                 None => break,
-                Some(Item::Bind(name, lock)) => self.stands.bind(self.depth, name, lock)?,
+                Some(Item::Bind(name, lock)) => self.replacements.bind(self.depth, name, lock)?,
                 Some(Item::Line(line)) => self.add(alloc, text, line)?,
             }
         }
@@ -86,16 +86,16 @@ impl Picks {
     /// Adds a line.
     fn add(&mut self, alloc: Global, text: &mut Text, line: Line) -> Result<(), TextFault> {
         if text.has_role(line, Role::Pick) {
-            // the name that a pick binds stands for nothing there
-            let line = text.replaced(&self.stands, line, 2)?;
+            // nothing replaces the name that a pick binds
+            let line = text.replaced(&self.replacements, line, 2)?;
             return self.pick(alloc, text, line);
         }
-        let line = text.replaced(&self.stands, line, 1)?;
+        let line = text.replaced(&self.replacements, line, 1)?;
         if is_head(text, line) {
             self.depth = 0;
         }
         if ends_part(text, line) {
-            self.stands.release(self.depth);
+            self.replacements.release(self.depth);
         }
         match part_of(text, line) {
             Part::Begins(_) => self.depth = self.depth.saturating_add(1),
@@ -105,7 +105,7 @@ impl Picks {
         self.made.push(line)
     }
 
-    /// Adds a pick, and what it stands for to the pending items.
+    /// Adds a pick, and its parts to the pending items.
     fn pick(&mut self, alloc: Global, text: &mut Text, line: Line) -> Result<(), TextFault> {
         let (name, locks) = self.choices(alloc, text, line)?;
         let written = match locks.as_slice() {
@@ -116,7 +116,7 @@ impl Picks {
         self.made.push(Line { written, ..line })?;
         match locks.as_slice() {
             [] => Ok(()),
-            [lock] => Ok(self.stands.bind(self.depth, name, *lock)?),
+            [lock] => Ok(self.replacements.bind(self.depth, name, *lock)?),
             locks => self.add_parts(alloc, text, line, (name, locks)),
         }
     }

@@ -3,7 +3,7 @@ use crate::counter::Counter;
 use crate::line::Written;
 use crate::names::Names;
 use crate::origin::LineAt;
-use crate::said::{Condition, Join, Look, Said, WaitLine};
+use crate::said::{Condition, Join, Look, Receipt, Said, WaitLine};
 use crate::tree::{Node, Tree};
 use lock_modes::{Kind, LockStep, Mode, ModeStep};
 use lock_plan::{Act, Block, PlanCall, PlanLock, ProgramPlace, Signal};
@@ -112,6 +112,7 @@ fn begins(said: Said) -> bool {
         said,
         Said::Try(..)
             | Said::TryMove(..)
+            | Said::Receipt(..)
             | Said::If(_)
             | Said::Until(_)
             | Said::Repeat
@@ -136,48 +137,13 @@ impl Elaboration<'_> {
     /// Adds the places of a line.
     fn add(&mut self, said: Said, is_last_or: bool) -> Result<(), AllocError> {
         match said {
-            Said::Lock(..)
-            | Said::Counter(..)
-            | Said::Condvar(_)
-            | Said::Unlatched(..)
-            | Said::Party(..)
-            | Said::Define(..)
-            | Said::Pick(_, Written::No | Written::Inline) => Ok(()),
-            Said::Call(is_rwlock, step, lock) => {
-                let call = self.call(is_rwlock, step, lock);
-                self.step(Act::Call(call))
-            }
             Said::Try(is_rwlock, step, lock) => {
                 let call = self.call(is_rwlock, step, lock);
                 self.branch(Act::Try(call))
             }
-            Said::Move(_, is_up, name) => {
-                let row = self.names.counter_row(name);
-                self.step(Act::Signal(if is_up {
-                    Signal::Add(row, self.counter(name).most)
-                } else {
-                    Signal::Take(row)
-                }))
-            }
-            Said::TryMove(_, is_up, name) => {
-                let row = self.names.counter_row(name);
-                self.branch(Act::Choose(if is_up {
-                    Block::TryAdd(row, self.counter(name).most)
-                } else {
-                    Block::TryTake(row)
-                }))
-            }
-            Said::SetFlag(value, name) => self.set(name, usize::from(value)),
-            Said::SetCounter(value, name) => self.set(name, value),
+            Said::TryMove(_, is_up, name) => self.try_move(is_up, name),
+            Said::Receipt(how, channel, any) => self.begin_receipt(how, channel, any),
             Said::Assert(condition) => self.assert(condition),
-            Said::NotifyOne(condvar) => {
-                self.step(Act::Signal(Signal::NotifyOne(self.condvar(condvar))))
-            }
-            Said::NotifyAll(condvar) => {
-                self.step(Act::Signal(Signal::NotifyAll(self.condvar(condvar))))
-            }
-            Said::Start(party) => self.step(Act::Signal(Signal::Start(self.party(party)))),
-            Said::Join(party) => self.step(Act::Signal(Signal::Join(self.party(party)))),
             Said::Wait(wait) => self.wait(wait),
             Said::If(condition) => self.begin_if(condition),
             Said::Until(condition) => self.begin_until(condition),
@@ -192,7 +158,32 @@ impl Elaboration<'_> {
             Said::End => self.end(),
             Said::Leave => self.leave(),
             Said::Return => self.leave_all(),
+            _ => match self.act(said) {
+                Some(act) => self.step(act),
+                None => Ok(()),
+            },
         }
+    }
+
+    /// Returns the act of a line that is one step, or `None` for a line without a step.
+    fn act(&self, said: Said) -> Option<Act> {
+        let signal = match said {
+            Said::Call(is_rwlock, step, lock) => {
+                return Some(Act::Call(self.call(is_rwlock, step, lock)));
+            }
+            Said::Move(_, true, name) => {
+                Signal::Add(self.names.counter_row(name), self.counter(name).most)
+            }
+            Said::Move(_, false, name) => Signal::Take(self.names.counter_row(name)),
+            Said::SetFlag(value, name) => self.set(name, usize::from(value)),
+            Said::SetCounter(value, name) => self.set(name, value),
+            Said::NotifyOne(condvar) => Signal::NotifyOne(self.condvar(condvar)),
+            Said::NotifyAll(condvar) => Signal::NotifyAll(self.condvar(condvar)),
+            Said::Start(party) => Signal::Start(self.party(party)),
+            Said::Join(party) => Signal::Join(self.party(party)),
+            _ => return None,
+        };
+        Some(Act::Signal(signal))
     }
 
     /// Adds a place with one place after it.
@@ -229,6 +220,16 @@ impl Elaboration<'_> {
             kind: OpenKind::Branch,
         })?;
         Ok(())
+    }
+
+    /// Begins a block of a move of a counter that is tried.
+    fn try_move(&mut self, is_up: bool, name: usize) -> Result<(), AllocError> {
+        let row = self.names.counter_row(name);
+        self.branch(Act::Choose(if is_up {
+            Block::TryAdd(row, self.counter(name).most)
+        } else {
+            Block::TryTake(row)
+        }))
     }
 
     /// Begins a block of which the first part is for a true condition.
@@ -294,10 +295,10 @@ impl Elaboration<'_> {
         Ok(())
     }
 
-    /// Gives a counter a value.
-    fn set(&mut self, name: usize, value: usize) -> Result<(), AllocError> {
+    /// Returns what gives a counter a value.
+    fn set(&self, name: usize, value: usize) -> Signal {
         let place = self.counter(name).place(value);
-        self.step(Act::Signal(Signal::Set(self.names.counter_row(name), place)))
+        Signal::Set(self.names.counter_row(name), place)
     }
 
     fn counter(&self, name: usize) -> Counter {
@@ -351,6 +352,37 @@ impl Elaboration<'_> {
         self.decide(condition, past, inside)?;
         self.here = inside;
         Ok(())
+    }
+
+    /// Begins a block that receives from a channel that may be closed. Its lines are for an item. A party without one gives the
+    /// token back.
+    fn begin_receipt(
+        &mut self,
+        how: Receipt,
+        channel: usize,
+        any: usize,
+    ) -> Result<(), AllocError> {
+        let past = match how {
+            Receipt::While => self.open_loop()?,
+            Receipt::Try | Receipt::If => self.label()?,
+        };
+        let (token, inside, closed) = (self.label()?, self.label()?, self.label()?);
+        let (row, most) = (self.names.counter_row(any), self.counter(any).most);
+        match how {
+            Receipt::Try => self.place(Act::Choose(Block::TryTake(row)), token, past)?,
+            Receipt::If | Receipt::While => {
+                self.place(Act::Signal(Signal::Take(row)), token, token)?;
+            }
+        }
+        let item = self.names.counter_row(channel);
+        self.place(Act::Choose(Block::TryTake(item)), inside, closed)?;
+        self.here = closed;
+        self.place(Act::Signal(Signal::Add(row, most)), past, past)?;
+        self.here = inside;
+        match how {
+            Receipt::While => Ok(()),
+            Receipt::Try | Receipt::If => self.open_branch(past),
+        }
     }
 
     /// Adds the places of a wait: the release of the mutex and the sleep, and then the call that acquires the mutex again.

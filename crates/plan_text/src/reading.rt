@@ -3,7 +3,7 @@ use crate::counter::{Counter, CounterKind};
 use crate::forms::Role;
 use crate::line::Written;
 use crate::rows::{MOST, count};
-use crate::said::{Condition, Join, Look, Looks, Parties, Said, WaitLine};
+use crate::said::{Condition, Join, Look, Looks, Parties, Receipt, Said, WaitLine};
 use crate::words::Words;
 use lock_modes::{Kind, LockStep, Mode, ModeStep};
 use lock_plan::PlanLock;
@@ -28,7 +28,10 @@ pub(crate) fn read(
     };
     match form.2 {
         Role::Wait => wait(words, looks, rest),
-        Role::If => Ok(condition(words, looks, rest)?.map(Said::If)),
+        Role::If => match receipt(words, Receipt::If, rest, written) {
+            Some(said) => Ok(Some(said)),
+            None => Ok(condition(words, looks, rest)?.map(Said::If)),
+        },
         Role::Assert => assert(words, looks, rest),
         Role::Repeat => repeat(words, looks, rest),
         role => Ok(plain(words, role, rest, written)),
@@ -42,7 +45,9 @@ fn plain(words: &Words, role: Role, rest: &[usize], written: Written) -> Option<
         Role::Counter(CounterKind::Flag) => return flag(words, rest),
         Role::Counter(kind) => return counter(words, kind, rest),
         Role::Party(is_server) => return party(words, is_server, rest),
-        Role::Try => return tried(words, rest),
+        Role::Try => return tried(words, rest, written),
+        Role::While => return receipt(words, Receipt::While, rest, written),
+        Role::Close => Said::Unclosed(name(words, rest)?),
         Role::Define => return define(words, rest),
         Role::Invoke => return invoke(words, rest, written),
         Role::Pick => return pick(words, rest, written),
@@ -219,10 +224,29 @@ pub(crate) fn parties(field: &str) -> Option<Parties> {
     }
 }
 
-fn tried(words: &Words, fields: &[usize]) -> Option<Said> {
+/// Reads a receive from a channel that may be closed. In a line that is not written out, no such channel is there.
+fn receipt(words: &Words, how: Receipt, fields: &[usize], written: Written) -> Option<Said> {
+    match fields {
+        [word, name, any] if written == Written::Block && words.is(*word, "receive") => {
+            Some(Said::Receipt(how, *name, *any))
+        }
+        [word, name] if words.is(*word, "receive") => {
+            Some(Said::Unclosed(name_in(words, *name)?))
+        }
+        _ => None,
+    }
+}
+
+fn tried(words: &Words, fields: &[usize], written: Written) -> Option<Said> {
+    if written == Written::Block {
+        return receipt(words, Receipt::Try, fields, written);
+    }
     let [call, name] = fields else {
         return None;
     };
+    if written == Written::Refused {
+        return Some(Said::TryOffer(*name));
+    }
     if let Role::Move(kind, is_up) = words.form(*call)?.2 {
         return Some(Said::TryMove(kind, is_up, name_in(words, *name)?));
     }

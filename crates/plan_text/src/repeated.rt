@@ -105,8 +105,16 @@ pub(crate) fn part_of(text: &Text, line: Line) -> Part {
     };
     match (form.2, fields) {
         (Role::Repeat, [_, turns]) => Part::Begins(count(text.words.text(*turns))),
-        (Role::Repeat | Role::Forever | Role::Either | Role::Try | Role::If | Role::Define, _) =>
-            Part::Begins(None),
+        (
+            Role::Repeat
+            | Role::While
+            | Role::Forever
+            | Role::Either
+            | Role::Try
+            | Role::If
+            | Role::Define,
+            _,
+        ) => Part::Begins(None),
         (Role::Invoke | Role::Pick, _) if line.written == Written::Block => Part::Begins(None),
         (Role::End, [_]) => Part::Ends,
         _ => Part::Neither,

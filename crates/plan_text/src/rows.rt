@@ -46,7 +46,10 @@ fn row(alloc: Global, text: &Text, line: Line) -> Result<Option<(usize, String, 
     };
     let is_declared = matches!(
         text.words.form(*word),
-        Some(form) if matches!(form.2, Role::Lock(_) | Role::Counter(_) | Role::Condvar)
+        Some(form) if matches!(
+            form.2,
+            Role::Lock(_) | Role::Counter(_) | Role::Condvar | Role::Barrier | Role::Latch
+        )
     );
     if !is_declared {
         return Ok(None);

@@ -15,6 +15,12 @@ pub(crate) enum Said {
     /// A call, and whether its word is one for reader-writer locks.
     Call(bool, LockStep, usize),
     Try(bool, LockStep, usize),
+    /// Receives from a channel that may be closed. The second name is the counter of its tokens.
+    Receipt(Receipt, usize, usize),
+    /// Closes a channel or receives until it is closed, but no such channel is there.
+    Unclosed(usize),
+    /// Tries a send on a channel without room.
+    TryOffer(usize),
     /// Moves a counter of this kind up, or down.
     Move(CounterKind, bool, usize),
     TryMove(CounterKind, bool, usize),
@@ -45,6 +51,17 @@ pub(crate) enum Said {
     Or,
     Else,
     End,
+}
+
+/// How a block receives from a channel that may be closed.
+#[derive(Clone, Copy, PartialEq, Eq)]
+pub(crate) enum Receipt {
+    /// If an item is there.
+    Try,
+    /// Once an item is there, or the channel is closed.
+    If,
+    /// Again and again, until the channel is closed.
+    While,
 }
 
 /// How many parties a line makes.

@@ -6,7 +6,7 @@ use crate::line_fault::{LineFault, NameKind, Refusal};
 use crate::names::{NameSet, Names};
 use crate::open_block::{OpenBlocks, OpenPart};
 use crate::origin::LineAt;
-use crate::said::{Condition, Looks, Parties, Said, WaitLine};
+use crate::said::{Condition, Looks, Parties, Receipt, Said, WaitLine};
 use indexmap::IndexSet;
 use lock_plan::PlanLock;
 use std::alloc::{AllocError, Global};
@@ -157,7 +157,9 @@ impl Tree {
         }
         let turned = match form.2 {
             Role::Try | Role::If => self.open.begin(OpenPart::First, form.0, number),
-            Role::Repeat | Role::Forever => self.open.begin(OpenPart::Loop, form.0, number),
+            Role::Repeat | Role::While | Role::Forever => {
+                self.open.begin(OpenPart::Loop, form.0, number)
+            }
             Role::Either => self.open.begin(OpenPart::Either, form.0, number),
             Role::Define => self.open.begin(OpenPart::Function, form.0, number),
             Role::Pick if line.written == Written::Block => {
@@ -231,16 +233,7 @@ impl Tree {
                 let any = self.names.words.any(alloc, name)?;
                 self.add_copy(name, any)?;
             }
-            Parties::Copies(count) => {
-                let text = String::from_str(alloc, self.names.words.text(name))?;
-                for copy in 0..count {
-                    let copied = self
-                        .names
-                        .words
-                        .copy(alloc, text.as_str(), copy.saturating_add(1))?;
-                    self.add_copy(name, copied)?;
-                }
-            }
+            Parties::Copies(count) => self.add_copies(alloc, name, count)?,
         }
         let count = self.names.parties.len().saturating_sub(first);
         for _party in 0..count {
@@ -255,6 +248,19 @@ impl Tree {
                 nodes,
             },
         )?;
+        Ok(())
+    }
+
+    /// Adds so many parties of the line with this name.
+    fn add_copies(&mut self, alloc: Global, name: usize, count: u64) -> Result<(), Refusal> {
+        let text = String::from_str(alloc, self.names.words.text(name))?;
+        for copy in 0..count {
+            let copied = self
+                .names
+                .words
+                .copy(alloc, text.as_str(), copy.saturating_add(1))?;
+            self.add_copy(name, copied)?;
+        }
         Ok(())
     }
 
@@ -286,6 +292,18 @@ impl Tree {
                 self.known_counter(kind, name)
             }
             Said::SetCounter(value, name) => self.known_number(name, value),
+            Said::Receipt(_, channel, any) => {
+                self.known_counter(CounterKind::Channel, channel)?;
+                self.known_counter(CounterKind::Counter, any)
+            }
+            Said::Unclosed(channel) => {
+                self.known_counter(CounterKind::Channel, channel)?;
+                Err(Refusal::Bad(LineFault::TooMuchRoom(channel)))
+            }
+            Said::TryOffer(channel) => {
+                self.known_counter(CounterKind::Channel, channel)?;
+                Err(Refusal::Bad(LineFault::NoTryOffer(channel)))
+            }
             Said::Unlatched(is_latch, name) => Err(Refusal::Bad(LineFault::NoGate(is_latch, name))),
             Said::NotifyOne(condvar) | Said::NotifyAll(condvar) => {
                 self.known(NameKind::Condvar, condvar)
@@ -420,8 +438,9 @@ impl Tree {
     /// Turns to the blocks that are open after a line of a party.
     fn turn_blocks(&mut self, line: LineAt, form: Form, said: Said) -> Result<(), Refusal> {
         let begun = match said {
-            Said::Try(..) | Said::TryMove(..) | Said::If(_) => OpenPart::First,
-            Said::Repeat | Said::Forever | Said::Until(_) => OpenPart::Loop,
+            Said::Repeat | Said::Forever | Said::Until(_) | Said::Receipt(Receipt::While, _, _) =>
+                OpenPart::Loop,
+            Said::Try(..) | Said::TryMove(..) | Said::If(_) | Said::Receipt(..) => OpenPart::First,
             Said::Either | Said::Pick(_, Written::Block) => OpenPart::Either,
             Said::Invoke(..) => OpenPart::Call,
             Said::Wait(wait) => return self.open.have_room(wait_depth(wait)),

@@ -105,5 +105,5 @@ world 2 3;word 1; -> bad line 2;
 world 2 3;wins 18446744073709551616; -> bad line 2;
 world 0 3;load 1;spent; -> bad line 3;";
 
-/// So many good lines stand above one that is bad.
+/// So many good lines are above one that is bad.
 pub const GOOD: [usize; 6] = [254, 255, 256, 65_534, 65_535, 65_536];

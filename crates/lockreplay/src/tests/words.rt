@@ -5,7 +5,7 @@ use std::env::FillError;
 use std::rt::Env;
 use std::test::Fail;
 
-/// The words after the program's name, and what they ask for: `None` stands for the usage line.
+/// The words after the program's name, and what they ask for: `None` is the usage line.
 const REQUESTS: [(&[&[u8]], Option<Request>); 16] = [
     (&[b"table"], Some(Request::Replay(Which::Table))),
     (&[b"word"], Some(Request::Replay(Which::Word))),

@@ -1,31 +1,31 @@
-//! Words that stand for other words.
+//! Words that other words replace.
 use crate::line::Text;
 use std::alloc::{AllocError, Global};
 
-/// Words that stand for others, each as long as the block is open in which it was bound.
+/// Words that others replace, each as long as the block is open in which it was bound.
 #[derive(Drop)]
-pub(crate) struct Stands {
-    /// For each word what it stands for.
+pub(crate) struct Replacements {
+    /// For each word the one that replaces it.
     others: Vec<Option<usize>>,
-    /// The words that are bound, each with the number of open blocks and what it stood for before.
+    /// The words that are bound, each with the number of open blocks and the word that replaced it before.
     bound: Vec<(usize, usize, Option<usize>)>,
 }
 
-impl Stands {
-    /// Makes a table in which no word of a text stands for another one.
-    pub(crate) fn new(alloc: Global, text: &Text) -> Result<Stands, AllocError> {
-        Ok(Stands {
+impl Replacements {
+    /// Makes a table in which no word of a text is replaced.
+    pub(crate) fn new(alloc: Global, text: &Text) -> Result<Replacements, AllocError> {
+        Ok(Replacements {
             others: vec![in alloc; None; text.words.len()]?,
             bound: Vec::new(alloc),
         })
     }
 
-    /// Returns the word for which a word stands, if there is one.
+    /// Returns the word that replaces a word, if there is one.
     pub(crate) fn word(&self, word: usize) -> Option<usize> {
         self.others.get(word).copied().flatten()
     }
 
-    /// Has a word stand for another one, where so many blocks are open.
+    /// Replaces a word by another one, where so many blocks are open.
     pub(crate) fn bind(
         &mut self,
         depth: usize,
