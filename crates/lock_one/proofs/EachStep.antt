@@ -110,9 +110,6 @@ or_right false b h = h
 or_no : (a b : Bool) → a ≡ false → b ≡ false → (a || b) ≡ false
 or_no a b x y = rw x y
 
-no_and : (b : Bool) → (false && b) ≡ false
-no_and b = refl
-
 -- who serves
 
 server_stays : (limits : WordLimits) (views : List SleepView) (k : ℕ) (you : SleepView) (v : SleepView) (want : ExWant) (someone : SomeoneServes limits views v want)
@@ -617,10 +614,10 @@ none_asleep_all Awake want e = cc
 none_asleep_all (Asleep x) want e = cc
 none_asleep_all Woken want e = cc
 
--- one that sleeps on slept before, and the test does not name it
-sleeps_on : (test : SleepView → ExWant → Bool) (v : SleepView) (state : SleepState) (want : ExWant) → woken_of test v state ≡ Asleep want → (state ≡ Asleep want) × (test v want ≡ false)
-sleeps_on test v Awake want e = cc
-sleeps_on test v (Asleep x) want e = by (test v x) refl e
+-- one that is still asleep slept before, and the test does not name it
+still_asleep : (test : SleepView → ExWant → Bool) (v : SleepView) (state : SleepState) (want : ExWant) → woken_of test v state ≡ Asleep want → (state ≡ Asleep want) × (test v want ≡ false)
+still_asleep test v Awake want e = cc
+still_asleep test v (Asleep x) want e = by (test v x) refl e
   where
     same : (x y : ExWant) → Asleep x ≡ Asleep y → x ≡ y
     same x y e = cc
@@ -628,7 +625,7 @@ sleeps_on test v (Asleep x) want e = by (test v x) refl e
     by : (b : Bool) → b ≡ test v x → (if b then Woken else Asleep x) ≡ Asleep want → (Asleep x ≡ Asleep want) × (test v want ≡ false)
     by true is e = cc
     by false is e = (e, subst (λ w. test v w ≡ false) (same x want e) (sym is))
-sleeps_on test v Woken want e = cc
+still_asleep test v Woken want e = cc
 
 woken_stays : (test : SleepView → ExWant → Bool) (v : SleepView) (state : SleepState) → IsTrue (is_woken state) → IsTrue (is_woken (woken_of test v state))
 woken_stays test v Awake h = h
@@ -687,12 +684,12 @@ module _ (limits : WordLimits) (core : ℕ) (t s : Bool) (views : List SleepView
       paid_by wakes (slice_set mid k you) refl (λ v. refl) (λ j w want is asleep.
       elim (changed_or_not mid k j you w is) [
         | inl e ↦
-            (let mine = sleeps_on test me me.sleep want (subst (λ (x : SleepView). x.sleep ≡ Asleep want) e.1 asleep) in
+            (let mine = still_asleep test me me.sleep want (subst (λ (x : SleepView). x.sleep ≡ Asleep want) e.1 asleep) in
             absurd (true≢false (sym (ap is_asleep mine.0) ∙ awake)))
         | inr e ↦
             (let from = of_mapped wakes views j w e.1 in
             let v = from.0 in
-            let slept = sleeps_on test v v.sleep want (subst (λ (x : SleepView). x.sleep ≡ Asleep want) from.2 asleep) in (
+            let slept = still_asleep test v v.sleep want (subst (λ (x : SleepView). x.sleep ≡ Asleep want) from.2 asleep) in (
               subst (λ (x : SleepView). IsEntitled x want) (sym from.2) (kept.entitled j v want from.1 slept.0),
               subst (λ (x : SleepView). IsServed limits core t s (slice_set mid k you) x want) (sym from.2)
                   (elim (kept.none_forgotten j v want from.1 slept.0) [

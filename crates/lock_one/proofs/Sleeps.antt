@@ -78,9 +78,6 @@ after_sleep call answer v state acq blocks =
       reader = acq.reader;
     }
 
-debt_of : (d : Debt) (a : Action) → IsWake d a → Debt
-debt_of d a h = d
-
 owes_all : (d : Debt) → IsWake d action.WakeAll → d ≡ debt.All
 owes_all debt.Nothing h = absurd h
 owes_all debt.One h = cc
@@ -108,9 +105,6 @@ owes_one debt.One h = refl
 owes_one debt.All h = cc
 owes_one debt.Next h = cc
 owes_one debt.Turn h = cc
-
-all_awake : (state : SleepState) → state ≡ Awake → (after : SleepState) → after ≡ state → after ≡ Awake
-all_awake state e w same = same ∙ e
 
 module _ (word : ℕ) (views : List SleepView) (k : ℕ) (me : SleepView) (call : WordCall) (range : IsLimit call.readers)
     (keeps : Keeps (limits_of call) word views) (at : slice_get views k ≡ Some me) where

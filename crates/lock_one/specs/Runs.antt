@@ -59,8 +59,8 @@ pub data Act : Type 0 where
   acquires : ℕ → ExWant → Bool → Bool → Act
   -- the thread begins to release or downgrade
   releases : ℕ → Down → Act
-  -- the thread makes the next action of its call. The second number answers an action that reads no word: at a sleep, 0 falls asleep. A
-  -- wake-up of one wakes the thread with the third number, if it sleeps
+  -- the thread makes the next action of its call. The second number answers an action that reads no word. The answer 0 to a sleep lets
+  -- the thread fall asleep. A wake-up of one wakes the thread with the third number, if it sleeps
   steps : ℕ → ℕ → ℕ → Act
 
 abbrev pub is_idle : Option Underway → Bool
