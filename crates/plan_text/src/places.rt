@@ -368,13 +368,13 @@ impl Elaboration<'_> {
         };
         let (token, inside, closed) = (self.label()?, self.label()?, self.label()?);
         let (row, most) = (self.names.counter_row(any), self.counter(any).most);
+        let item = self.names.counter_row(channel);
         match how {
-            Receipt::Try => self.place(Act::Choose(Block::TryTake(row)), token, past)?,
+            Receipt::Try => self.try_token(row, item, token, past)?,
             Receipt::If | Receipt::While => {
                 self.place(Act::Signal(Signal::Take(row)), token, token)?;
             }
         }
-        let item = self.names.counter_row(channel);
         self.place(Act::Choose(Block::TryTake(item)), inside, closed)?;
         self.here = closed;
         self.place(Act::Signal(Signal::Add(row, most)), past, past)?;
@@ -383,6 +383,23 @@ impl Elaboration<'_> {
             Receipt::While => Ok(()),
             Receipt::Try | Receipt::If => self.open_branch(past),
         }
+    }
+
+    /// Adds a try of a token, which leads to the first label with one, and to the second one if there is no item either. An item
+    /// without a token is one that another party is about to send or to receive.
+    fn try_token(
+        &mut self,
+        row: usize,
+        item: usize,
+        token: usize,
+        past: usize,
+    ) -> Result<(), AllocError> {
+        let (again, look) = (self.here, self.label()?);
+        self.place(Act::Choose(Block::TryTake(row)), token, look)?;
+        self.here = look;
+        self.place(Act::Choose(Block::AtLeast(item, 1)), again, past)?;
+        self.here = token;
+        Ok(())
     }
 
     /// Adds the places of a wait: the release of the mutex and the sleep, and then the call that acquires the mutex again.
