@@ -47,8 +47,8 @@ GATES = {
     "await latch": ["lock @", "wait @ @ until @ < 1", "unlock @"],
     "count_down latch": ["lock @", "try take @", "end", "notify_all @", "unlock @"],
 }
-# the lines for which those of channels and their calls stand: those that begin with `0` only without room, and those with `!` only of a channel that may be closed;
-# `?` begins a block that receives from such a one
+# the lines that replace those of a channel and its calls: after `0` a line of channels without room alone, and after `!` one of channels that may be closed;
+# after `?` comes the first line of a block that receives from such a channel
 CHANNELS = {
     "channel": ["channel @ #", "0 counter @.turn 1 = 1", "0 counter @.ack 1", "! counter @.any +", "! flag @.closed"],
     "send": ["! assert not @.closed", "0 take @.turn", "send @", "! add @.any", "0 take @.ack", "0 add @.turn"],
@@ -337,7 +337,7 @@ def with_channels(lines):
 
 
 def channel_lines(call, name, room, is_offered, is_closed):
-    """The words of each line for which a call of a channel stands, or the line that declares one."""
+    """The words of each line that replaces a call of a channel, or the line that declares one."""
     has = {"0": is_offered, "!": is_closed, "?": True}
     for template in CHANNELS[call]:
         mark, _, rest = template.partition(" ")
