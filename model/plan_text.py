@@ -4,6 +4,7 @@ docs/PLANS.md has the format. A fault of the plan is the exception `Fault`.
 """
 import itertools
 import math
+import pathlib
 import re
 from typing import NamedTuple
 
@@ -90,6 +91,7 @@ MOST_NUMBERED = 2**128 - 1
 MOST_COPIES = 64
 MOST_OPEN = 64
 MOST_PARAMETERS = 64
+MOST_FILES = 64
 
 
 class Fault(Exception):
@@ -128,6 +130,7 @@ class Line(NamedTuple):
     """A line of a party: a word of a block, `call` or `try` with a call, or a word with a name.
 
     A line `wait` of the text becomes several: see `wait_lines`. The number of a line of a function is `N from M`, where `M` is that of the call.
+    The number of a line of an included file is `FILE:N`.
     """
 
     number: int | str
@@ -198,9 +201,9 @@ class Plan(NamedTuple):
         return [slice(it[0], it[-1] + 1) for it in numbers if len(it) > 1]
 
 
-def read_plan(text):
-    """The plan of these bytes, or a fault."""
-    words, last = expanded_lines(text)
+def read_plan(text, folder="."):
+    """The plan of these bytes, or a fault. The files that it includes are in this folder."""
+    words, last = expanded_lines(text, folder)
     plan = Plan({}, {}, [], [], [], [], [], {})
     for number, fields in words:
         if not read_line(plan, number, fields):
@@ -219,14 +222,51 @@ def read_plan(text):
     return plan
 
 
-def expanded_lines(text):
+def expanded_lines(text, folder="."):
     """The lines with words, each a number and its words, with those that are short for several expanded; and how many lines the text has."""
-    lines = text.decode("latin-1").removesuffix("\n").split("\n") if text else []
-    words = [(number, WORD.findall(line.partition("#")[0])) for number, line in enumerate(lines, 1)]
-    found = [] if len(text) > LONGEST_INPUT else expanded([it for it in words if it[1]])
-    if len(text) > LONGEST_INPUT or length_of(found) > LONGEST_INPUT:
+    if len(text) > LONGEST_INPUT:
         raise Fault("input too long")
-    return found, len(lines)
+    found = expanded(with_files(text, folder, {"": len(text)}, ()))
+    if length_of(found) > LONGEST_INPUT:
+        raise Fault("input too long")
+    return found, len(text_lines(text))
+
+
+def text_lines(text):
+    """The lines of these bytes."""
+    return text.decode("latin-1").removesuffix("\n").split("\n") if text else []
+
+
+def with_files(text, folder, lengths, around):
+    """The lines with words, each a number and its words, with those of each included file in the place of the line that includes it.
+
+    `lengths` has the length of each file that was read, by its name, and `around` the names of the files in which this text is included.
+    """
+    found = []
+    for number, line in enumerate(text_lines(text), 1):
+        number, words = f"{around[-1]}:{number}" if around else number, WORD.findall(line.partition("#")[0])
+        if words[:1] != ["include"] or len(words) != 2:
+            found += [(number, words)] if words else []
+            continue
+        name = f"{pathlib.PurePosixPath(*around[-1:]).parent / words[1]}"
+        if name in around:
+            raise fault_of(number, f"'{name}' includes itself")
+        found += with_files(opened(number, name, folder, lengths), folder, lengths, (*around, name))
+    return found
+
+
+def opened(number, name, folder, lengths):
+    """The bytes of a file that the line with this number includes."""
+    path = pathlib.Path(folder, name)
+    if not path.exists():
+        raise fault_of(number, f"cannot read '{name}': no such file")
+    text = path.read_bytes()
+    lengths[name] = len(text)
+    if len(lengths) > 1 + MOST_FILES:
+        raise fault_of(number, f"cannot read '{name}': more than {MOST_FILES} files")
+    if sum(lengths.values()) > LONGEST_INPUT:
+        raise fault_of(number, f"cannot read '{name}': input too long")
+    return text
 
 
 def fault_of(number, why):

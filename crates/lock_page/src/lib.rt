@@ -5,9 +5,11 @@
 #![tactic(auto)]
 
 mod asked;
+mod no_files;
 mod room;
 
 use crate::asked::{Endless, form_of_number, machine_of_number};
+use crate::no_files::NoFiles;
 use crate::room::Room;
 use lock_script::{ReplayFault, answers};
 use plan_answer::{Answer, NoAnswer, Options, Status, explore_plan};
@@ -51,7 +53,15 @@ pub extern "C" fn lock_page_plan(
         is_core: false,
     };
     let mut reader = text;
-    let found = explore_plan(alloc, INPUT, options, memory, &mut Endless, &mut reader);
+    let found = explore_plan(
+        alloc,
+        INPUT,
+        options,
+        memory,
+        &mut Endless,
+        &mut NoFiles,
+        &mut reader,
+    );
     *told = told_of_plan(alloc, &mut Room::new(room), &found);
 }
 

@@ -2,12 +2,14 @@
 #![tactic(auto)]
 
 mod arguments;
+mod disk;
 mod machine;
 mod options;
 mod usage;
 mod watch;
 
 use crate::arguments::{Arguments, Request};
+use crate::disk::{Disk, open_fault};
 use crate::machine::half_of_memory;
 use crate::options::Print;
 use crate::watch::Watch;
@@ -138,6 +140,7 @@ fn searched<R: Read>(
         request.options,
         memory,
         &mut watch,
+        &mut Disk { rt },
         reader,
     );
     watch.end();
@@ -224,11 +227,7 @@ fn before(file: &str) -> (&str, &'static str) {
 
 /// Prints why a file was not opened, and gives the status.
 fn unopened(rt: &HostRuntime, file: &str, why: io::ErrorKind) -> Status {
-    let why = match why {
-        io::ErrorKind::NotFound => "no such file",
-        io::ErrorKind::PermissionDenied => "permission denied",
-        _ => "input failed",
-    };
+    let why = open_fault(why);
     let _ = eprintln!(rt; "cannot read '{file}': {why}");
     Status::Faulty
 }

@@ -1,5 +1,5 @@
 //! Bad lines of a plan: each with its place, its text, and marks below the word that is wrong.
-use plan_text::{BadLine, Spot};
+use plan_text::{BadLine, Sources, Spot};
 use std::alloc::{AllocError, Global};
 
 /// A longer line is not shown, in bytes.
@@ -8,11 +8,11 @@ const LONGEST: usize = 200;
 /// The least width of the number of a line that is shown.
 const NUMBER_WIDTH: usize = 4;
 
-/// Makes the text that tells the bad lines of a plan in a file.
+/// Makes the text that tells the bad lines of a plan in a file, and of the files that it includes.
 pub(crate) fn bad_text(
     alloc: Global,
     file: &str,
-    script: &[u8],
+    sources: &Sources,
     lines: &[BadLine],
 ) -> Result<String, AllocError> {
     let mut text = String::new(alloc);
@@ -20,7 +20,11 @@ pub(crate) fn bad_text(
         if !text.is_empty() {
             text.push('\n')?;
         }
-        write_bad(alloc, &mut text, file, script, line)?;
+        let file = match line.file.as_str() {
+            "" => file,
+            included => included,
+        };
+        write_bad(alloc, &mut text, file, sources.text_of(file), line)?;
     }
     Ok(text)
 }

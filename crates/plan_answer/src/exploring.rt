@@ -9,7 +9,7 @@ use crate::order_budget::OrderBudget;
 use crate::verdict::Verdict;
 use lock_plan::explore;
 use lock_plan_order::{OrderFault, find_order};
-use plan_text::{BadLine, Core, TextFault, read_core, read_plan};
+use plan_text::{BadLine, Core, Files, Sources, TextFault, read_core, read_plan};
 use script_text::read_script;
 use std::alloc::{AllocError, AllocFailed, Global};
 use std::io::Read;
@@ -37,35 +37,36 @@ impl Answer {
     }
 }
 
-/// Reads a plan from a file of this name, searches it or looks for an order of its locks, and makes the answer. A searched plan
-/// may get a warning.
+/// Reads a plan from a file of this name and from those that it includes, searches it or looks for an order of its locks, and
+/// makes the answer. A searched plan may get a warning.
 ///
 /// # Errors
 ///
 /// In this order: a fault of reading, those of [`read_plan`] or [`read_core`], the first call that can never be made, too many
 /// combinations, no memory or time for the search or the look for an order, no memory for the text.
-pub fn explore_plan<R: Read, B: Budget>(
+pub fn explore_plan<R: Read, B: Budget, F: Files>(
     alloc: Global,
     file: &str,
     options: Options,
     memory: usize,
     budget: &mut B,
+    files: &mut F,
     reader: &mut R,
 ) -> Result<Answer, NoAnswer> {
-    let script = read_script(alloc, reader)?;
-    let script = script.as_slice();
-    match answer_of(alloc, options, memory, budget, script) {
+    let mut sources = Sources::new(alloc);
+    sources.add(String::from_str(alloc, file)?, read_script(alloc, reader)?)?;
+    match answer_of(alloc, options, memory, budget, &mut sources, files) {
         Ok(answer) => Ok(answer),
         Err(Fault::Search(why)) => Err(why),
         Err(Fault::Text(TextFault::TooLarge)) => Err(NoAnswer::TooLarge),
         Err(Fault::Text(TextFault::TooLong)) => Err(NoAnswer::TooLong),
         Err(Fault::Text(TextFault::OutOfMemory)) => Err(NoAnswer::OutOfMemory),
         Err(Fault::Text(TextFault::Lines(lines))) => {
-            let text = bad_text(alloc, file, script, lines.as_slice())?;
+            let text = bad_text(alloc, file, &sources, lines.as_slice())?;
             Err(NoAnswer::Lines(text))
         }
         Err(Fault::PlanLines(lines)) => {
-            let text = bad_text(alloc, file, &[], lines.as_slice())?;
+            let text = bad_text(alloc, file, &Sources::new(alloc), lines.as_slice())?;
             Err(NoAnswer::Lines(text))
         }
     }
@@ -93,17 +94,18 @@ impl From<NoAnswer> for Fault {
 }
 
 /// Makes the answer to the plan of a text.
-fn answer_of<B: Budget>(
+fn answer_of<B: Budget, F: Files>(
     alloc: Global,
     options: Options,
     memory: usize,
     budget: &mut B,
-    script: &[u8],
+    sources: &mut Sources,
+    files: &mut F,
 ) -> Result<Answer, Fault> {
     let mut core = if options.is_core {
-        read_core(alloc, script)?
+        read_core(alloc, sources.text(0))?
     } else {
-        read_plan(alloc, script)?
+        read_plan(alloc, sources, files)?
     };
     if options.form == Form::Core {
         return core_answer(alloc, &core);

@@ -67,15 +67,20 @@ impl BadLines {
         word: usize,
         fault: LineFault,
     ) -> Result<(), AllocError> {
-        if self.told.iter().any(|told| told.line == line.number) {
+        let origin = Origin::new(line, &tree.origins);
+        if self.has_told(origin) {
             return Ok(());
         }
-        let origin = Origin::new(line, tree.calls.as_slice());
         let why = fault.why_from(alloc, &tree.names.words, origin)?;
-        let line = line.number;
-        self.told.push(BadLine { line, word, why })?;
+        self.told.push(BadLine::of(alloc, origin, word, why)?)?;
         self.is_full = self.is_full || self.told.len() >= MOST_TOLD;
         Ok(())
+    }
+
+    /// Returns whether a line is there.
+    fn has_told(&self, origin: Origin) -> bool {
+        self.told.iter().any(|told| told.line == origin.line()
+            && told.file.as_str() == origin.file())
     }
 
     /// Notes the name of a bad line that seems to declare it.
@@ -103,15 +108,15 @@ impl BadLines {
     }
 }
 
-/// Makes the fault of a line with this number, of which this word is wrong.
+/// Makes the fault of a line, of which this word is wrong.
 pub(crate) fn fault_of(
     alloc: Global,
-    line: u64,
+    origin: Origin,
     word: usize,
     why: String,
 ) -> Result<TextFault, AllocError> {
     let mut told = Vec::new(alloc);
-    told.push(BadLine { line, word, why })?;
+    told.push(BadLine::of(alloc, origin, word, why)?)?;
     Ok(TextFault::Lines(told))
 }
 

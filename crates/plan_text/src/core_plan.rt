@@ -2,16 +2,20 @@
 use crate::bad_lines::{BadLines, fault_of};
 use crate::begun::check_begun;
 use crate::fault::TextFault;
+use crate::files::Files;
 use crate::forms::{FORMS, Form, Role};
+use crate::includes::scan_all;
 use crate::line::Line;
 use crate::line_fault::{LineFault, Refusal, write_callers};
 use crate::line_list::expand;
 use crate::misread::misread;
 use crate::names::Names;
 use crate::origin::{LineAt, Origin};
+use crate::origins::Origins;
 use crate::programs::Programs;
 use crate::reading::read;
-use crate::scan::{Scanned, scan};
+use crate::scan::Scanned;
+use crate::sources::Sources;
 use crate::tree::Tree;
 use crate::words::Words;
 use lock_plan::{CallFault, Plan, PlanFault, PlanLock};
@@ -36,16 +40,20 @@ pub struct NamedPlan {
     pub programs: Programs,
 }
 
-/// Reads the text of a plan.
+/// Reads the text of a plan, which is the first of these, and adds the texts of the files that it includes.
 ///
 /// # Errors
 ///
-/// `TooLong` if the text is longer than a text may be once it is written out. Then `Lines`: bad ones, in a text with a block open
-/// at its end the line after the last; else those that name unknown parties; else the first one that starts a party which never
-/// begins. `OutOfMemory` at any time.
-pub fn read_plan(alloc: Global, bytes: &[u8]) -> Result<Core, TextFault> {
+/// `Lines` with one that includes a file which is not read, or which includes itself. Then `TooLong` if the text is longer than a
+/// text may be once it is written out. Then `Lines`: bad ones, in a text with a block open at its end the line after the last; else
+/// those that name unknown parties; else the first one that starts a party which never begins. `OutOfMemory` at any time.
+pub fn read_plan<F: Files>(
+    alloc: Global,
+    sources: &mut Sources,
+    files: &mut F,
+) -> Result<Core, TextFault> {
     // each exit that drops a value of many fields is proved anew, so the work is done on a borrow
-    let mut scanned = scan(alloc, bytes)?;
+    let mut scanned = scan_all(alloc, sources, files)?;
     read_scanned(alloc, &mut scanned)
 }
 
@@ -54,7 +62,7 @@ fn read_scanned(alloc: Global, scanned: &mut Scanned) -> Result<Core, TextFault>
     let lines = expand(alloc, &mut scanned.text, scanned.lines.as_slice())?;
     let words = replace(&mut scanned.text.words, Words::new(alloc));
     let mut tree = Tree::new(alloc, Names::new(alloc, words));
-    tree.calls = replace(&mut scanned.text.calls, Vec::new(alloc));
+    tree.origins = replace(&mut scanned.text.origins, Origins::new(alloc));
     let fields = scanned.text.fields.as_slice();
     read_tree(alloc, &mut tree, fields, lines.as_slice(), scanned.number)
 }
@@ -235,5 +243,5 @@ fn call_fault(alloc: Global, origin: Origin, why: CallFault) -> TextFault {
 fn call_fault_of(alloc: Global, origin: Origin, why: CallFault) -> Result<TextFault, AllocError> {
     let mut text = format!(in alloc; "{why}")?;
     write_callers(&mut text, origin)?;
-    fault_of(alloc, origin.line(), 0, text)
+    fault_of(alloc, origin, 0, text)
 }

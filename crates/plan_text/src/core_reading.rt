@@ -8,7 +8,8 @@ use crate::forms::Role;
 use crate::line::{Line, Written};
 use crate::line_fault::{LineFault, Refusal};
 use crate::names::Names;
-use crate::origin::LineAt;
+use crate::origin::{LineAt, Origin};
+use crate::origins::Origins;
 use crate::programs::Programs;
 use crate::reading::read;
 use crate::scan::{Scanned, scan};
@@ -47,8 +48,8 @@ fn read_scanned(alloc: Global, scanned: &mut Scanned) -> Result<Core, TextFault>
     let lines = scanned.lines.as_slice();
     add_names(alloc, &mut tree, fields, lines)?;
     if lines.is_empty() {
-        let words = &tree.names.words;
-        return Err(fault(alloc, words, (scanned.number, 0, LineFault::NothingSaid)));
+        let bad = (scanned.number, 0, LineFault::NothingSaid);
+        return Err(fault(alloc, &tree.names.words, &tree.origins, bad));
     }
     let mut programs = Programs::new(alloc);
     add_programs(alloc, &tree.names, &mut programs, fields, lines)?;
@@ -70,7 +71,7 @@ fn add_names(
             Err(Refusal::Bad(why)) => {
                 let words = &tree.names.words;
                 let word = word_of(words, line.fields(fields), why);
-                return Err(fault(alloc, words, (line.at.number, word, why)));
+                return Err(fault(alloc, words, &tree.origins, (line.at.number, word, why)));
             }
         }
     }
@@ -121,12 +122,12 @@ fn add_programs(
             Err(_) => return Err(TextFault::OutOfMemory),
         };
         if let Err(bad) = read {
-            return Err(fault(alloc, &names.words, bad));
+            return Err(fault(alloc, &names.words, &programs.origins, bad));
         }
     }
     match below.end(alloc, programs)? {
         Ok(()) => Ok(()),
-        Err(bad) => Err(fault(alloc, &names.words, bad)),
+        Err(bad) => Err(fault(alloc, &names.words, &programs.origins, bad)),
     }
 }
 
@@ -134,9 +135,10 @@ fn add_programs(
 type Bad = (u64, usize, LineFault);
 
 /// Makes the fault of a bad line.
-fn fault(alloc: Global, words: &Words, bad: Bad) -> TextFault {
-    let made = match bad.2.why(alloc, words) {
-        Ok(why) => fault_of(alloc, bad.0, bad.1, why),
+fn fault(alloc: Global, words: &Words, origins: &Origins, bad: Bad) -> TextFault {
+    let origin = Origin::new(LineAt::alone(bad.0), origins);
+    let made = match bad.2.why(alloc, words, origins) {
+        Ok(why) => fault_of(alloc, origin, bad.1, why),
         Err(refused) => Err(refused),
     };
     match made {
@@ -174,12 +176,13 @@ impl Below {
                 self.parties = Some(rest.len());
                 Ok(ended)
             }
-            _ => self.add_place(names, programs, line.at.number, fields),
+            _ => self.add_place(alloc, names, programs, line.at.number, fields),
         }
     }
 
     fn add_place(
         &mut self,
+        alloc: Global,
         names: &Names,
         programs: &mut Programs,
         number: u64,
@@ -195,7 +198,7 @@ impl Below {
                 self.note(number, place.next);
                 self.note(number, place.other);
                 self.places.push(place)?;
-                let line = line_at(&names.words, programs, number, written)?;
+                let line = line_at(alloc, &names.words, programs, number, written)?;
                 self.lines.push(line)?;
                 Ok(Ok(()))
             }
@@ -239,30 +242,63 @@ impl Below {
 
 /// Makes the line of a place in the line of a core with this number: the one that it names, or its own.
 fn line_at(
+    alloc: Global,
     words: &Words,
     programs: &mut Programs,
     own: u64,
-    written: Option<(u64, &[usize])>,
+    written: Option<FromLine<'_>>,
 ) -> Result<LineAt, AllocError> {
-    let Some((number, callers)) = written else {
+    let Some((line, callers)) = written else {
         return Ok(LineAt::alone(own));
     };
     let mut call = 0usize;
     for caller in callers.iter().rev() {
-        if let Some(number) = unsigned(words.text(*caller)) {
-            programs.calls.push(LineAt { number, call })?;
-            call = programs.calls.len();
+        if let Some(line) = named_line(words.text(*caller)) {
+            let at = line_of(alloc, programs, line, call)?;
+            programs.origins.calls.push(at)?;
+            call = programs.origins.calls.len();
         }
     }
-    Ok(LineAt { number, call })
+    line_of(alloc, programs, line, call)
 }
 
-/// A place, and what its line says of a line of the plan: its number, and the words after that.
-type ReadPlace<'a> = (ProgramPlace, Option<(u64, &'a [usize])>);
+/// Makes the line with this name, for which this call is written out.
+fn line_of(
+    alloc: Global,
+    programs: &mut Programs,
+    line: NamedLine<'_>,
+    call: usize,
+) -> Result<LineAt, AllocError> {
+    let (name, number) = line;
+    let file = if name.is_empty() {
+        0
+    } else {
+        programs.origins.add_file(alloc, name)?
+    };
+    Ok(LineAt { number, file, call })
+}
+
+/// The name of the included file that has a line, or an empty one, and the number of the line.
+type NamedLine<'a> = (&'a str, u64);
+
+/// Reads `LINE` or `FILE:LINE`.
+fn named_line(word: &str) -> Option<NamedLine<'_>> {
+    match word.rsplit_once(':') {
+        None => Some(("", unsigned(word)?)),
+        Some(("", _)) => None,
+        Some((file, number)) => Some((file, unsigned(number)?)),
+    }
+}
+
+/// What the line of a place says of a line of the plan: that line, and the words after it.
+type FromLine<'a> = (NamedLine<'a>, &'a [usize]);
+
+/// A place, and what its line says of a line of the plan.
+type ReadPlace<'a> = (ProgramPlace, Option<FromLine<'a>>);
 
 /// Reads the line of a place with this number.
 fn read_place<'a>(
-    names: &Names,
+    names: &'a Names,
     next: u64,
     fields: &'a [usize],
 ) -> Result<ReadPlace<'a>, LineFault> {
@@ -302,11 +338,11 @@ fn arrow_of(words: &Words, fields: &[usize]) -> usize {
     before
 }
 
-/// What comes after an act: one way or two, and perhaps the number of a line and the words after it.
-type Ways<'a> = (usize, Option<usize>, Option<(u64, &'a [usize])>);
+/// What comes after an act: one way or two, and perhaps a line of the plan.
+type Ways<'a> = (usize, Option<usize>, Option<FromLine<'a>>);
 
 /// Reads what comes after an act, from the arrow on.
-fn read_ways<'a>(words: &Words, fields: &'a [usize]) -> Option<Ways<'a>> {
+fn read_ways<'a>(words: &'a Words, fields: &'a [usize]) -> Option<Ways<'a>> {
     let (first, second, rest) = match fields {
         [_, first, bar, second, rest @ ..] if words.is(*bar, "|") => {
             (*first, Some(way(words, *second)?), rest)
@@ -317,20 +353,20 @@ fn read_ways<'a>(words: &Words, fields: &'a [usize]) -> Option<Ways<'a>> {
     let line = match rest {
         [] => None,
         [word, number, callers @ ..] if words.is(*word, "line") && are_callers(words, callers) => {
-            Some((unsigned(words.text(*number))?, callers))
+            Some((named_line(words.text(*number))?, callers))
         }
         _ => return None,
     };
     Some((way(words, first)?, second, line))
 }
 
-/// Returns whether words are `from` and a number, any number of times.
+/// Returns whether words are `from` and a line, any number of times.
 fn are_callers(words: &Words, fields: &[usize]) -> bool {
     for (at, field) in fields.iter().enumerate() {
         let is_right = if at % 2 == 0 {
             words.is(*field, "from")
         } else {
-            unsigned(words.text(*field)).is_some()
+            named_line(words.text(*field)).is_some()
         };
         if !is_right {
             return false;

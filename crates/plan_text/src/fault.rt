@@ -1,5 +1,6 @@
 //! Why a text says no plan.
-use std::alloc::{AllocError, AllocFailed};
+use crate::origin::Origin;
+use std::alloc::{AllocError, AllocFailed, Global};
 
 /// Why a text says no plan.
 #[derive(Debug, Drop)]
@@ -14,11 +15,30 @@ pub enum TextFault {
 /// A line that is wrong. It says nothing of the line's text.
 #[derive(Debug, Drop)]
 pub struct BadLine {
+    /// The name of the included file that has the line, or an empty one for a line of the plan itself.
+    pub file: String,
     /// The number of the line, from 1.
     pub line: u64,
     /// Which word of the line is wrong, from 0.
     pub word: usize,
     pub why: String,
+}
+
+impl BadLine {
+    /// Makes the line from which something comes, of which this word is wrong.
+    pub(crate) fn of(
+        alloc: Global,
+        origin: Origin,
+        word: usize,
+        why: String,
+    ) -> Result<BadLine, AllocError> {
+        Ok(BadLine {
+            file: String::from_str(alloc, origin.file())?,
+            line: origin.line(),
+            word,
+            why,
+        })
+    }
 }
 
 impl From<AllocError> for TextFault {

@@ -54,10 +54,12 @@ pub(crate) enum Role {
     If,
     Else,
     End,
+    /// Stands for the lines of a file.
+    Include,
 }
 
 /// All words that lines begin with. A word's number in [`Words`](crate::words::Words) is its place here.
-pub(crate) static FORMS: [Form; 58] = [
+pub(crate) static FORMS: [Form; 59] = [
     Form("mutex", "NAME [fair]", Role::Lock(Kind::Mutex)),
     Form(
         "rwlock",
@@ -212,4 +214,5 @@ pub(crate) static FORMS: [Form; 58] = [
     Form("count_down", "LATCH", Role::CountDown),
     Form("close", "CHANNEL", Role::Close),
     Form("while", "receive CHANNEL", Role::While),
+    Form("include", "FILE", Role::Include),
 ];

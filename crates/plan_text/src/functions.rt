@@ -149,17 +149,16 @@ impl Calls<'_> {
             written: Written::Block,
             ..line
         })?;
-        text.calls.push(line.at)?;
+        text.origins.calls.push(line.at)?;
         self.callees.push(number)?;
-        let call = text.calls.len();
+        let call = text.origins.calls.len();
         let end = text.alone(alloc, line, "end")?;
         self.pending.push(end)?;
         self.bind(text, function.head, line)?;
         for at in (function.first..function.end).rev() {
             if let Some(inside) = self.lines.get(at) {
                 let inside = text.replaced(&self.replacements, *inside, 1)?;
-                let number = inside.at.number;
-                let at = LineAt { number, call };
+                let at = LineAt { call, ..inside.at };
                 self.pending.push(Line { at, ..inside })?;
             }
         }

@@ -1,8 +1,8 @@
 //! The front of plans: what a text says, as locks, flags, condition variables, and a program of places for each party.
 //!
-//! [`read_plan`] scans a text into lines of words, writes out the lines that are short for several, reads each line into a
-//! tree, and elaborates the tree of each party into places. Each place keeps the number of its line. The meaning of a text is
-//! tested against a model, and not proved: [`Core`] is what is searched, and can be printed.
+//! [`read_plan`] scans a text and the files that it includes into lines of words, writes out the lines that are short for several,
+//! reads each line into a tree, and elaborates the tree of each party into places. Each place keeps its file and the number of its
+//! line. The meaning of a text is tested against a model, and not proved: [`Core`] is what is searched, and can be printed.
 #![tactic(auto)]
 
 mod alike;
@@ -15,9 +15,11 @@ mod core_reading;
 mod core_text;
 mod counter;
 mod fault;
+mod files;
 mod forms;
 mod functions;
 mod gates;
+mod includes;
 mod indexed;
 mod line;
 mod line_fault;
@@ -26,6 +28,7 @@ mod misread;
 mod names;
 mod open_block;
 mod origin;
+mod origins;
 mod picks;
 mod places;
 mod programs;
@@ -35,6 +38,7 @@ mod replacements;
 mod rows;
 mod said;
 mod scan;
+mod sources;
 mod spot;
 mod spread;
 mod templates;
@@ -45,7 +49,9 @@ pub use core_plan::{Core, NamedPlan, read_plan};
 pub use core_reading::read_core;
 pub use core_text::write_look;
 pub use fault::{BadLine, TextFault};
+pub use files::{FileFault, Files};
 pub use names::Names;
 pub use origin::Origin;
 pub use programs::Programs;
+pub use sources::Sources;
 pub use spot::Spot;

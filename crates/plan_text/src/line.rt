@@ -1,6 +1,7 @@
 //! Lines of words.
 use crate::forms::Role;
 use crate::origin::LineAt;
+use crate::origins::Origins;
 use crate::replacements::Replacements;
 use crate::words::Words;
 use std::alloc::{AllocError, Global};
@@ -45,8 +46,7 @@ impl Line {
 pub(crate) struct Text {
     pub(crate) words: Words,
     pub(crate) fields: Vec<usize>,
-    /// The lines of the calls that are written out, each of which may be in another one before it.
-    pub(crate) calls: Vec<LineAt>,
+    pub(crate) origins: Origins,
 }
 
 impl Text {
@@ -55,7 +55,7 @@ impl Text {
         Text {
             words: Words::new(alloc),
             fields: Vec::new(alloc),
-            calls: Vec::new(alloc),
+            origins: Origins::new(alloc),
         }
     }
 

@@ -1,7 +1,9 @@
 //! Why a line is bad.
 use crate::counter::CounterKind;
+use crate::files::FileFault;
 use crate::forms::Form;
-use crate::origin::Origin;
+use crate::origin::{LineAt, Origin};
+use crate::origins::Origins;
 use crate::words::Words;
 use std::alloc::{AllocError, Global};
 use std::fmt;
@@ -62,8 +64,8 @@ pub(crate) enum LineFault {
     NoChoice(usize),
     /// A party has the name of a copy.
     TakenCopy(usize),
-    /// A line with this word is in a block. The block begins with the second word, in the line of this number.
-    InBlock(usize, &'static str, u64),
+    /// A line with this word is in a block. The block begins with the second word, in this line.
+    InBlock(usize, &'static str, LineAt),
     /// A line with this word is above the first party.
     NoParty(usize),
     /// A word of a block that does not fit the open blocks, by the text.
@@ -82,8 +84,12 @@ pub(crate) enum LineFault {
     NoPlaceNumber(usize, u64),
     /// A way of a core leads to no place.
     NoSuchPlace,
-    /// A block has no end. It begins with this word, in the line of this number.
-    NoEnd(&'static str, u64),
+    /// A block has no end. It begins with this word, in this line.
+    NoEnd(&'static str, LineAt),
+    /// The included file with this name is not read.
+    Unread(usize, FileFault),
+    /// The file with this name is included where its own lines go on.
+    IncludesItself(usize),
 }
 
 /// Why a line does not go on: it is bad, or memory was refused.
@@ -101,8 +107,18 @@ impl From<AllocError> for Refusal {
 
 impl LineFault {
     /// Makes the reason's text.
-    pub(crate) fn why(self, alloc: Global, words: &Words) -> Result<String, AllocError> {
-        format!(in alloc; "{}", Why { fault: self, words })
+    pub(crate) fn why(
+        self,
+        alloc: Global,
+        words: &Words,
+        origins: &Origins,
+    ) -> Result<String, AllocError> {
+        let why = Why {
+            fault: self,
+            words,
+            origins,
+        };
+        format!(in alloc; "{why}")
     }
 
     /// Makes the reason's text, with the calls around the line.
@@ -112,7 +128,7 @@ impl LineFault {
         words: &Words,
         origin: Origin,
     ) -> Result<String, AllocError> {
-        let mut text = self.why(alloc, words)?;
+        let mut text = self.why(alloc, words, origin.origins)?;
         write_callers(&mut text, origin)?;
         Ok(text)
     }
@@ -125,7 +141,7 @@ pub(crate) fn write_callers(text: &mut String, origin: Origin) -> Result<(), All
         let Some(caller) = here.caller() else {
             break;
         };
-        write!(text, ", from line {}", caller.line())?;
+        write!(text, ", from line {}", caller.without_calls())?;
         here = caller;
     }
     Ok(())
@@ -135,11 +151,12 @@ pub(crate) fn write_callers(text: &mut String, origin: Origin) -> Result<(), All
 const TRIES: &str =
     "a try is of lock, read, write, upgradable_read, upgrade, add, take, acquire, release, send or receive";
 
-/// A reason and the words that it names. It shows as the text that the program prints.
+/// A reason, and the words and the lines that it names. It shows as the text that the program prints.
 #[derive(Clone, Copy)]
 struct Why<'a> {
     fault: LineFault,
     words: &'a Words,
+    origins: &'a Origins,
 }
 
 impl fmt::Display for NameKind {
@@ -172,11 +189,14 @@ impl fmt::Display for Why<'_> {
             LineFault::NoPlaceNumber(word, next) => {
                 write!(f, "'{}' in the place of {next}", self.text(word))
             }
-            LineFault::NoEnd(word, line) => write!(f, "'{word}' of line {line} without 'end'"),
+            LineFault::NoEnd(word, line) => {
+                write!(f, "'{word}' of line {} without 'end'", self.line(line))
+            }
             LineFault::InBlock(word, begin, line) => write!(
                 f,
-                "'{}' before the 'end' of '{begin}' of line {line}",
-                self.text(word)
+                "'{}' before the 'end' of '{begin}' of line {}",
+                self.text(word),
+                self.line(line)
             ),
             LineFault::Form(Form(word, "", _)) => write!(f, "'{word}' stands alone in its line"),
             LineFault::Form(Form(word, form, _)) => write!(f, "write '{word} {form}'"),
@@ -188,6 +208,11 @@ impl fmt::Display for Why<'_> {
 impl Why<'_> {
     fn text(&self, word: usize) -> &str {
         self.words.text(word)
+    }
+
+    /// Returns a line, without the calls around it.
+    fn line(&self, line: LineAt) -> Origin<'_> {
+        Origin::new(line, self.origins).without_calls()
     }
 
     /// Shows the reason of a line of which a word is wrong by itself.
@@ -264,7 +289,7 @@ impl Why<'_> {
         }
     }
 
-    /// Shows the reason of a line with a counter, a channel, a barrier, a latch or a row that does not permit it.
+    /// Shows the reason of a line with a counter, a channel, a barrier, a latch, a row or a file that does not permit it.
     fn fmt_counted<W: fmt::Write>(&self, f: &mut fmt::Formatter<W>) -> fmt::Result {
         match self.fault {
             LineFault::TooHigh(name, most) => {
@@ -286,6 +311,10 @@ impl Why<'_> {
             LineFault::NoGate(false, name) => {
                 write!(f, "no barrier or latch '{}'", self.text(name))
             }
+            LineFault::Unread(name, why) => {
+                write!(f, "cannot read '{}': {why}", self.text(name))
+            }
+            LineFault::IncludesItself(name) => self.quote(f, name, "includes itself"),
             LineFault::NoChoice(row) => { write!(f, "no lock to pick in row '{}'", self.text(row)) }
             _ => Ok(()),
         }

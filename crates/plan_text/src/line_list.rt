@@ -29,12 +29,18 @@ impl LineList {
 
     /// Adds a line.
     pub(crate) fn push(&mut self, line: Line) -> Result<(), TextFault> {
+        self.count(line)?;
+        self.lines.push(line)?;
+        Ok(())
+    }
+
+    /// Counts the bytes of a line for which others stand.
+    pub(crate) fn count(&mut self, line: Line) -> Result<(), TextFault> {
         self.bytes = self.bytes.saturating_add(line.bytes);
         // The last line needs no line feed.
         if self.bytes > SCRIPT_LIMIT + 1 {
             return Err(TextFault::TooLong);
         }
-        self.lines.push(line)?;
         Ok(())
     }
 }

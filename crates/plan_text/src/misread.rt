@@ -74,6 +74,7 @@ fn wrong_field(words: &Words, word: usize, role: Role, fields: &[usize]) -> Opti
                 LineFault::NoName(name)
             })
         }
+        Role::Include => None,
         Role::Set if words.is_name(name) => None,
         Role::Define if !words.is_name(name) => Some(LineFault::NoName(name)),
         Role::Party(_) if !words.is_name(name) => Some(LineFault::NoName(name)),

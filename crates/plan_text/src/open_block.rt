@@ -1,5 +1,6 @@
 //! The blocks that are open.
 use crate::line_fault::{LineFault, Refusal};
+use crate::origin::LineAt;
 use std::alloc::{AllocError, Global};
 
 /// The most blocks that may be open.
@@ -9,9 +10,9 @@ const DEEPEST: usize = 64;
 #[derive(Clone, Copy)]
 struct OpenBlock {
     part: OpenPart,
-    /// The word with which it begins, and the number of that line.
+    /// The word with which it begins, and that line.
     word: &'static str,
-    line: u64,
+    line: LineAt,
 }
 
 /// The part of a block that is open.
@@ -43,7 +44,7 @@ impl OpenBlocks {
     }
 
     /// Returns the word and the line with which the innermost block begins.
-    pub(crate) fn innermost(&self) -> Option<(&'static str, u64)> {
+    pub(crate) fn innermost(&self) -> Option<(&'static str, LineAt)> {
         let block = self.blocks.last()?;
         Some((block.word, block.line))
     }
@@ -73,7 +74,7 @@ impl OpenBlocks {
         &mut self,
         part: OpenPart,
         word: &'static str,
-        line: u64,
+        line: LineAt,
     ) -> Result<(), Refusal> {
         self.have_room(1)?;
         self.add(OpenBlock { part, word, line })?;

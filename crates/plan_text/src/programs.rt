@@ -2,6 +2,7 @@
 use crate::alike::{Rows, alike_rows, is_copy, rows_of};
 use crate::counter::Counter;
 use crate::origin::{LineAt, Origin};
+use crate::origins::Origins;
 use crate::places::places_of;
 use crate::tree::{Group, Tree};
 use lock_plan::{Act, ProgramPlace, Signal};
@@ -13,8 +14,7 @@ pub struct Programs {
     programs: Vec<Vec<ProgramPlace>>,
     /// The line of each place of each program.
     lines: Vec<Vec<LineAt>>,
-    /// The lines of the calls that are written out.
-    pub(crate) calls: Vec<LineAt>,
+    pub(crate) origins: Origins,
     /// The number of each row's program.
     numbers: Vec<usize>,
 }
@@ -27,14 +27,14 @@ impl Programs {
         Programs {
             programs: Vec::new(alloc),
             lines: Vec::new(alloc),
-            calls: Vec::new(alloc),
+            origins: Origins::new(alloc),
             numbers: Vec::new(alloc),
         }
     }
 
     /// Elaborates a tree into the programs of all rows.
     pub(crate) fn add_all(&mut self, alloc: Global, tree: &Tree) -> Result<(), AllocError> {
-        self.calls.extend_from_slice(tree.calls.as_slice())?;
+        self.origins.add_all(alloc, &tree.origins)?;
         for group in &tree.groups {
             let places = places_of(alloc, tree, group.nodes.as_slice())?;
             let (places, lines) = (places.places.as_slice(), places.lines.as_slice());
@@ -133,7 +133,7 @@ impl Programs {
             Some(lines) => lines.get(place).copied(),
             None => None,
         };
-        Origin::new(line.unwrap_or(LineAt::alone(0)), self.calls.as_slice())
+        Origin::new(line.unwrap_or(LineAt::alone(0)), &self.origins)
     }
 
     /// Returns whether a row is a copy of the row before it.

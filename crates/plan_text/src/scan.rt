@@ -3,6 +3,7 @@ use crate::line::{Line, Text};
 use crate::origin::LineAt;
 use crate::spot::part;
 use std::alloc::{AllocError, Global};
+use std::mem::replace;
 
 /// The lines with words of a text.
 #[derive(Drop)]
@@ -17,12 +18,14 @@ pub(crate) struct Scanned {
     start: Option<usize>,
     is_comment: bool,
     is_utf8: bool,
+    /// The number of the included file, from 1, or 0 for the plan's own text.
+    file: usize,
 }
 
 /// Scans a text. Blanks separate words, a line feed ends a line, and a comment reaches from `#` to the end of its line.
 pub(crate) fn scan(alloc: Global, bytes: &[u8]) -> Result<Scanned, AllocError> {
     let mut scanned = Scanned::new(alloc);
-    match scanned.read(alloc, bytes) {
+    match scanned.read_first(alloc, bytes) {
         Ok(()) => Ok(scanned),
         Err(fault) => Err(fault),
     }
@@ -38,11 +41,30 @@ impl Scanned {
             start: None,
             is_comment: false,
             is_utf8: true,
+            file: 0,
         }
     }
 
-    fn read(&mut self, alloc: Global, bytes: &[u8]) -> Result<(), AllocError> {
+    fn read_first(&mut self, alloc: Global, bytes: &[u8]) -> Result<(), AllocError> {
         self.text.words.add_forms(alloc)?;
+        self.read(alloc, bytes)
+    }
+
+    /// Adds the lines of an included file with this number. The number of the next line stays that of the plan's own text.
+    pub(crate) fn add_file(
+        &mut self,
+        alloc: Global,
+        file: usize,
+        bytes: &[u8],
+    ) -> Result<(), AllocError> {
+        let number = replace(&mut self.number, 1);
+        self.file = file;
+        self.read(alloc, bytes)?;
+        self.number = number;
+        Ok(())
+    }
+
+    fn read(&mut self, alloc: Global, bytes: &[u8]) -> Result<(), AllocError> {
         for (at, byte) in bytes.iter().enumerate() {
             self.step(alloc, bytes, at, *byte)?;
         }
@@ -94,7 +116,10 @@ impl Scanned {
     /// Adds the line that ends here, if it has words.
     fn end_line(&mut self) -> Result<(), AllocError> {
         if self.first < self.text.next() {
-            let at = LineAt::alone(self.number);
+            let at = LineAt {
+                file: self.file,
+                ..LineAt::alone(self.number)
+            };
             let line = self.text.line(at, self.first, self.is_utf8);
             self.lines.push(line)?;
         }

@@ -6,6 +6,7 @@ use crate::line_fault::{LineFault, NameKind, Refusal};
 use crate::names::{NameSet, Names};
 use crate::open_block::{OpenBlocks, OpenPart};
 use crate::origin::LineAt;
+use crate::origins::Origins;
 use crate::said::{Condition, Looks, Parties, Receipt, Said, WaitLine};
 use indexmap::IndexSet;
 use lock_plan::PlanLock;
@@ -35,8 +36,7 @@ pub(crate) struct Tree {
     pub(crate) groups: Vec<Group>,
     /// The looks of all conditions.
     pub(crate) looks: Looks,
-    /// The lines of the calls that are written out.
-    pub(crate) calls: Vec<LineAt>,
+    pub(crate) origins: Origins,
     /// The names of the functions, and how many parameters each has.
     functions: NameSet,
     parameters: Vec<usize>,
@@ -60,7 +60,7 @@ impl Tree {
             locks: Vec::new(alloc),
             groups: Vec::new(alloc),
             looks: Vec::new(alloc),
-            calls: Vec::new(alloc),
+            origins: Origins::new(alloc),
             functions: IndexSet::new(alloc),
             parameters: Vec::new(alloc),
             servers: Vec::new(alloc),
@@ -96,7 +96,7 @@ impl Tree {
                 self.outside_blocks(word)?;
                 add_name(&mut self.functions, NameKind::Function, name)?;
                 add(&mut self.parameters, parameters)?;
-                self.open.begin(OpenPart::Function, form.0, line.number)
+                self.open.begin(OpenPart::Function, form.0, line)
             }
             Said::End if self.open.has_function() => self.open.end(),
             Said::Lock(..) | Said::Counter(..) | Said::Condvar(_) => {
@@ -148,7 +148,7 @@ impl Tree {
         form: Form,
         fault: LineFault,
     ) -> Result<(), AllocError> {
-        let number = line.at.number;
+        let at = line.at;
         if matches!(
             fault,
             LineFault::Unfit(_) | LineFault::TooDeep | LineFault::NoParty(_)
@@ -156,17 +156,17 @@ impl Tree {
             return Ok(());
         }
         let turned = match form.2 {
-            Role::Try | Role::If => self.open.begin(OpenPart::First, form.0, number),
+            Role::Try | Role::If => self.open.begin(OpenPart::First, form.0, at),
             Role::Repeat | Role::While | Role::Forever => {
-                self.open.begin(OpenPart::Loop, form.0, number)
+                self.open.begin(OpenPart::Loop, form.0, at)
             }
-            Role::Either => self.open.begin(OpenPart::Either, form.0, number),
-            Role::Define => self.open.begin(OpenPart::Function, form.0, number),
+            Role::Either => self.open.begin(OpenPart::Either, form.0, at),
+            Role::Define => self.open.begin(OpenPart::Function, form.0, at),
             Role::Pick if line.written == Written::Block => {
-                self.open.begin(OpenPart::Either, form.0, number)
+                self.open.begin(OpenPart::Either, form.0, at)
             }
             Role::Invoke if line.written == Written::Block => {
-                self.open.begin(OpenPart::Call, form.0, number)
+                self.open.begin(OpenPart::Call, form.0, at)
             }
             Role::Or => self.open.turn(OpenPart::Or),
             Role::Else => self.open.turn(OpenPart::Else),
@@ -451,7 +451,7 @@ impl Tree {
             Said::Return => return self.open.leave_all(),
             _ => return Ok(()),
         };
-        self.open.begin(begun, form.0, line.number)
+        self.open.begin(begun, form.0, line)
     }
 }
 

@@ -104,7 +104,7 @@ fn write_callers(text: &mut String, origin: Origin) -> Result<(), AllocError> {
             break;
         };
         text.push_str(if is_later { "," } else { "\"from\":[" })?;
-        write!(text, "{}", caller.line())?;
+        write_caller(text, caller)?;
         is_later = true;
         here = caller;
     }
@@ -113,6 +113,26 @@ fn write_callers(text: &mut String, origin: Origin) -> Result<(), AllocError> {
     } else {
         Ok(())
     }
+}
+
+/// Appends the line of a call: its number, or an object with its file if that is an included one.
+fn write_caller(text: &mut String, caller: Origin) -> Result<(), AllocError> {
+    if caller.file().is_empty() {
+        return write!(text, "{}", caller.line());
+    }
+    text.push('{')?;
+    write_line(text, caller)?;
+    text.push('}')
+}
+
+/// Appends the number of a line, and its file if that is an included one.
+fn write_line(text: &mut String, origin: Origin) -> Result<(), AllocError> {
+    write!(text, "\"line\":{}", origin.line())?;
+    if origin.file().is_empty() {
+        return Ok(());
+    }
+    text.push_str(",\"file\":")?;
+    write_text(text, origin.file())
 }
 
 /// Appends the begin of an object: the line of a row at a node, and its party.
@@ -124,7 +144,9 @@ fn write_party(
     row: usize,
 ) -> Result<(), AllocError> {
     let origin = lines.origin(row, place_at(source.plan, node, row));
-    write!(text, "{{\"line\":{},", origin.line())?;
+    text.push('{')?;
+    write_line(text, origin)?;
+    text.push(',')?;
     write_callers(text, origin)?;
     text.push_str("\"party\":")?;
     write_text(text, source.names.party(row))
