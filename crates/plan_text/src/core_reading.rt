@@ -41,20 +41,40 @@ pub fn read_core(alloc: Global, bytes: &[u8]) -> Result<Core, TextFault> {
     read_scanned(alloc, &mut scanned)
 }
 
+/// Reads a scanned core, and takes its words.
 fn read_scanned(alloc: Global, scanned: &mut Scanned) -> Result<Core, TextFault> {
     let words = replace(&mut scanned.text.words, Words::new(alloc));
     let mut tree = Tree::new(alloc, Names::new(alloc, words));
+    read_lines(alloc, &mut tree, scanned)
+}
+
+/// Reads the lines into a tree of names, and into programs.
+fn read_lines(alloc: Global, tree: &mut Tree, scanned: &Scanned) -> Result<Core, TextFault> {
     let fields = scanned.text.fields.as_slice();
     let lines = scanned.lines.as_slice();
-    add_names(alloc, &mut tree, fields, lines)?;
+    add_names(alloc, tree, fields, lines)?;
     if lines.is_empty() {
         let bad = (scanned.number, 0, LineFault::NothingSaid);
         return Err(fault(alloc, &tree.names.words, &tree.origins, bad));
     }
     let mut programs = Programs::new(alloc);
-    add_programs(alloc, &tree.names, &mut programs, fields, lines)?;
-    programs.add_counters(alloc, tree.names.counters.as_slice())?;
-    Ok(Core::of(alloc, &mut tree, programs))
+    match add_parts(alloc, &tree.names, &mut programs, fields, lines) {
+        Ok(()) => Ok(Core::of(alloc, tree, programs)),
+        Err(fault) => Err(fault),
+    }
+}
+
+/// Adds the programs of the parties, and those of the counters.
+fn add_parts(
+    alloc: Global,
+    names: &Names,
+    programs: &mut Programs,
+    fields: &[usize],
+    lines: &[Line],
+) -> Result<(), TextFault> {
+    add_programs(alloc, names, programs, fields, lines)?;
+    programs.add_counters(alloc, names.counters.as_slice())?;
+    Ok(())
 }
 
 /// Adds what the lines declare, and the names of the parties.

@@ -2,7 +2,7 @@
 use crate::line::{Line, Text};
 use std::alloc::{AllocError, Global};
 
-/// The words of a line: `@` is a name, `@.turn` a name beside it, `#` a number, and `#+1` the next one.
+/// The words of a line: `@` is a name, `@.turn` a name next to it, `#` a number, and `#+1` the next one.
 pub(crate) type Template = &'static [&'static str];
 
 /// The words that a template gets, by their numbers.
