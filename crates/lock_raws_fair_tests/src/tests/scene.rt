@@ -84,7 +84,7 @@ impl<C: Queueing> Scene<'_, C> {
             }
             Role::TimedWrite => {
                 self.await_cue(cue);
-                self.write_within(Duration::from_millis(1), digit);
+                self.write_in_line(digit);
             }
             Role::Release(mode) => self.release(cue, mode),
             Role::Pass => {
@@ -126,8 +126,23 @@ impl<C: Queueing> Scene<'_, C> {
         self.core.release(token, Exclusive);
     }
 
-    /// Writes if the core admits it within so long.
-    fn write_within(&self, time: Duration, digit: u64) {
+    /// Writes if the core admits it within a millisecond. A call that ends before it joins the line is made again.
+    fn write_in_line(&self, digit: u64) {
+        let joined = self.core.joined();
+        for _ in self.core.waiter().forever() {
+            if self.write_within(Duration::from_millis(1), digit) {
+                return;
+            }
+            // on a busy machine the deadline may pass before the first look, and the cues count arrivals
+            if self.core.joined() > joined {
+                self.timed_out.fetch_add(1, Ordering::SeqCst);
+                return;
+            }
+        }
+    }
+
+    /// Writes if the core admits it within so long, and returns whether it did.
+    fn write_within(&self, time: Duration, digit: u64) -> bool {
         let admitted = match self.core.instant_after(time) {
             Some(deadline) => self.core.try_acquire_until(Exclusive, deadline),
             None => None,
@@ -136,10 +151,9 @@ impl<C: Queueing> Scene<'_, C> {
             Some(token) => {
                 self.note(digit);
                 self.core.release(token, Exclusive);
+                true
             }
-            None => {
-                self.timed_out.fetch_add(1, Ordering::SeqCst);
-            }
+            None => false,
         }
     }
 
@@ -170,7 +184,7 @@ impl<C: Queueing> Scene<'_, C> {
         if let Some(token) = held {
             for _ in 0..70u32 {
                 if self.core.is_locked() {
-                    self.write_within(Duration::from_micros(200), 0);
+                    let _ = self.write_within(Duration::from_micros(200), 0);
                 }
             }
             self.core.release(token, Exclusive);

@@ -88,9 +88,11 @@ fn wait_until_open<R: RawMutex>(
         token = opened.wait(raw, token);
     }
     raw.unlock(token);
+    waiting.fetch_sub(1, Ordering::SeqCst);
 }
 
-/// Raises the flag once two threads sleep, and notifies them once. Returns how many waits were registered.
+/// Raises the flag once two threads sleep, and notifies them once. Returns how many waits it found, or 0 if a thread
+/// sleeps for ten seconds more.
 fn open<K: Clock, R: RawMutex>(
     clock: &K,
     raw: &R,
@@ -108,10 +110,19 @@ fn open<K: Clock, R: RawMutex>(
     let token = raw.lock();
     is_open.store(true, Ordering::SeqCst);
     raw.unlock(token);
-    opened.notify_all()
+    let waits = opened.notify_all();
+    for _ in 0..500u32 {
+        if waiting.load(Ordering::SeqCst) == 0 {
+            return waits;
+        }
+        clock.sleep(short());
+    }
+    // a thread that still sleeps would hang the test
+    opened.notify_all();
+    0
 }
 
-/// It ends only if both threads are woken. Then no wait is registered.
+/// One notification wakes both threads. Then no wait is registered.
 fn check_notify_all<T, R>(rt: &T, alloc: Global) -> Result<(), Fail>
 where
     T: Threads + Clock + Send + Sync + Copy,
