@@ -126,6 +126,35 @@ class Inline(str):
     """The word of a line `pick` with one choice, which is written in the lines below."""
 
 
+class Uncalled(str):
+    """The one word of a line of a function that no line calls, as long as the line. No word of the format is equal to it.
+
+    It has the words of the line, with `1` in place of each parameter, and the name by which the function may be called, or None.
+    """
+
+    function: str | None
+    words: list
+
+
+class AnyKind(str):
+    """A kind that every kind is equal to."""
+
+    __hash__ = str.__hash__
+
+    def __eq__(self, _other):
+        return True
+
+
+class AnyNames(dict):
+    """A table that has each name, with a counter of any kind."""
+
+    def __contains__(self, name):
+        return NAME.fullmatch(name) is not None
+
+    def __getitem__(self, _name):
+        return Counter(AnyKind(), MOST_COPIES, 0)
+
+
 class Line(NamedTuple):
     """A line of a party: a word of a block, `call` or `try` with a call, or a word with a name.
 
@@ -302,7 +331,10 @@ def replaced(words, others):
 
 
 def with_functions(lines):
-    """The lines, with those of a function below each call of it, and an `end` below them. Of the function itself its first line and its `end` are left."""
+    """The lines, with those of a function below each call of it, and an `end` below them. Of the function itself its first line and its `end` are left.
+
+    Between these two are the lines of a function that no line calls, each as one word, for which nothing is written out.
+    """
     functions, found, at = {}, [], 0
     while at < len(lines):
         words = lines[at][1]
@@ -311,11 +343,21 @@ def with_functions(lines):
             at += 1
             continue
         end = end_of_function(lines, at + 1)
-        if len(words) > 1:
-            functions.setdefault(words[1], (len(functions), words[2:], lines[at + 1 : end]))
+        body, name = lines[at + 1 : end], words[1] if len(words) > 1 and words[1] not in functions else None
+        if name is not None:
+            functions[name] = (len(functions), words[2:], body)
         has_end = end < len(lines) and lines[end][1] == ["end"]
-        found += [lines[at], *([lines[end]] if has_end else [])]
+        found += [lines[at], *((line, [uncalled(name, words[2:], it)]) for line, it in body), *([lines[end]] if has_end else [])]
         at = end + has_end
+    names = {words[1] for _, words in found if isinstance(words[0], Block)}
+    return [it for it in found if getattr(it[1][0], "function", None) not in names]
+
+
+def uncalled(function, parameters, words):
+    """The one word of a line of a function that no line calls."""
+    others = dict.fromkeys(parameters, "1")
+    found, call = Uncalled(" " * len(" ".join(words))), ["lock"] if words[0] == "try" and words[1:2] and words[1] in others else words[1:2]
+    found.function, found.words = function, [words[0], *(indexed(others.get(it, it), 0, 1) for it in [*call, *words[2:]])]
     return found
 
 
@@ -520,10 +562,29 @@ def read_line(plan, number, words):
     if words == ["end"] and plan.open[-1:] == ["def"]:
         plan.open.pop()
         return True
+    if isinstance(words[0], Uncalled):
+        return read_uncalled(plan, number, words[0].words)
     lines = lines_of(plan, number, words)
     if lines is not None:
         return plan.parties != [] and all(add_line(plan, it) for it in lines)
     return not plan.open and len(words) > 1 and NAME.fullmatch(words[1]) is not None and read_names(plan, *words)
+
+
+def read_uncalled(plan, number, words):
+    """Whether the line of a function that no line calls is in the format, where any name may be that of any thing. It adds its blocks to the open ones."""
+    match words:
+        case ["call", _, *_] | ["await" | "count_down" | "close", _]:
+            return all(map(NAME.fullmatch, words))
+        case ["pick", _, "of", _] | ["pick", _, "of", _, "except", _]:
+            return all(map(NAME.fullmatch, words))
+        case ["start" | "join", name] | ["start" | "join", name, "*"]:
+            return NAME.fullmatch(name) is not None
+        case ["repeat", turns] if number_of(turns, MOST_COPIES):
+            words = words[:1]
+        case ["if" | "while", "receive", _]:
+            words = [Block(words[0]), *words[1:]]
+    lines = lines_of(Plan(AnyNames(), AnyNames(), AnyNames(), [], [], [], [], {}), number, words)
+    return lines is not None and all(add_line(plan._replace(mentions=[], called=[]), it) for it in lines)
 
 
 def lines_of(plan, number, words):

@@ -1,5 +1,5 @@
 //! Bad lines of a plan: each with its place, its text, and marks below the word that is wrong.
-use plan_text::{BadLine, Sources, Spot};
+use plan_lines::{BadLine, Sources, Spot};
 use std::alloc::{AllocError, Global};
 
 /// A longer line is not shown, in bytes.

@@ -18,6 +18,6 @@ mod verdict;
 pub use exploring::{Answer, explore_plan};
 pub use no_answer::NoAnswer;
 pub use options::{Form, Options};
-pub use plan_text::{FileFault, Files};
+pub use plan_lines::{FileFault, Files};
 pub use status::Status;
 pub use verdict::Verdict;

@@ -1,13 +1,9 @@
 //! The bad lines of a text.
-use crate::counter::CounterKind;
-use crate::fault::{BadLine, TextFault};
-use crate::forms::Role;
-use crate::line_fault::{LineFault, NameKind};
-use crate::names::NameSet;
-use crate::origin::{LineAt, Origin};
 use crate::tree::Tree;
-use crate::words::Words;
 use indexmap::IndexSet;
+use plan_lines::{
+    BadLine, CounterKind, LineAt, LineFault, NameKind, NameSet, Origin, Role, TextFault, Words,
+};
 use std::alloc::{AllocError, Global};
 use std::mem::replace;
 
@@ -98,6 +94,11 @@ impl BadLines {
             .any(|other| base == self::base(words.text(*other)))
     }
 
+    /// Returns whether there is no bad line.
+    pub(crate) fn is_empty(&self) -> bool {
+        self.told.is_empty()
+    }
+
     /// Takes the bad lines as a fault, if there is one.
     pub(crate) fn fault(&mut self, alloc: Global) -> Result<(), TextFault> {
         if self.told.is_empty() {
@@ -106,18 +107,6 @@ impl BadLines {
             Err(TextFault::Lines(replace(&mut self.told, Vec::new(alloc))))
         }
     }
-}
-
-/// Makes the fault of a line, of which this word is wrong.
-pub(crate) fn fault_of(
-    alloc: Global,
-    origin: Origin,
-    word: usize,
-    why: String,
-) -> Result<TextFault, AllocError> {
-    let mut told = Vec::new(alloc);
-    told.push(BadLine::of(alloc, origin, word, why)?)?;
-    Ok(TextFault::Lines(told))
 }
 
 /// Returns a name without what comes after a bracket or a dot.

@@ -1,13 +1,11 @@
 //! The parties that begin.
 use crate::bad_lines::BadLines;
-use crate::fault::TextFault;
-use crate::line_fault::LineFault;
-use crate::origin::LineAt;
 use crate::tree::Tree;
+use plan_lines::{LineAt, LineFault};
 use std::alloc::{AllocError, Global};
 
 /// What is known of whether a party begins.
-#[derive(Clone, Copy, PartialEq, Eq)]
+#[derive(Clone, Copy)]
 enum Begins {
     Unknown,
     /// The walk from party to starter came here.
@@ -16,30 +14,39 @@ enum Begins {
     Never,
 }
 
-/// Refuses a tree in which a line names an unknown party, or some party never begins.
-pub(crate) fn check_begun(alloc: Global, tree: &Tree) -> Result<(), TextFault> {
-    let parties = &tree.names.parties;
-    let mut bad = BadLines::new(alloc);
+/// Tells the lines of a tree that name an unknown party.
+pub(crate) fn tell_unknown(
+    alloc: Global,
+    tree: &Tree,
+    bad: &mut BadLines,
+) -> Result<(), AllocError> {
     for (mention, name) in tree.mentions.as_slice().iter().enumerate() {
-        if !parties.contains(name) && !bad.is_full() {
+        if !tree.names.parties.contains(name) && !bad.is_full() {
             let line = line_in(tree.mention_lines.as_slice(), mention);
             bad.tell(alloc, tree, line, 1, LineFault::UnknownParty)?;
         }
     }
-    bad.fault(alloc)?;
+    Ok(())
+}
+
+/// Tells the line that starts the first party which never begins, if there is one.
+pub(crate) fn tell_never(alloc: Global, tree: &Tree, bad: &mut BadLines) -> Result<(), AllocError> {
     if tree.started.is_empty() {
         return Ok(());
     }
     let begin = begin(alloc, tree)?;
-    for (party, name) in parties.as_slice().iter().enumerate() {
-        if begin.get(party).copied() == Some(Begins::Never) {
-            let start = tree.started.get_index_of(name).unwrap_or(0);
-            let line = line_in(tree.start_lines.as_slice(), start);
-            bad.tell(alloc, tree, line, 1, LineFault::NeverBegins)?;
-            return bad.fault(alloc);
-        }
-    }
-    Ok(())
+    let Some(party) = begin
+        .iter()
+        .position(|begins| matches!(*begins, Begins::Never))
+    else {
+        return Ok(());
+    };
+    let start = match tree.names.parties.get_index(party) {
+        Some(name) => tree.started.get_index_of(name).unwrap_or(0),
+        None => 0,
+    };
+    let line = line_in(tree.start_lines.as_slice(), start);
+    bad.tell(alloc, tree, line, 1, LineFault::NeverBegins)
 }
 
 fn line_in(lines: &[LineAt], number: usize) -> LineAt {

@@ -1,9 +1,8 @@
 //! Reading the act of a place of a core.
-use crate::counter::{Counter, CounterKind};
-use crate::line_fault::{LineFault, NameKind};
-use crate::names::{NameSet, Names};
+use crate::names::Names;
 use lock_modes::{LockStep, Mode, ModeStep};
 use lock_plan::{Act, Block, PlanCall, Signal};
+use plan_lines::{Counter, CounterKind, LineFault, NameKind, NameSet};
 use script_text::unsigned;
 
 /// Reads an act of these words.
@@ -11,32 +10,50 @@ pub(crate) fn act(names: &Names, fields: &[usize]) -> Result<Act, LineFault> {
     let [word, rest @ ..] = fields else {
         return Err(LineFault::NoPlace);
     };
-    match (names.words.text(*word), rest) {
-        ("try", rest) => tried(names, rest),
-        ("repeat", []) => Ok(Act::Choose(Block::Repeat)),
-        ("either", []) => Ok(Act::Choose(Block::Either)),
-        ("if", look) => {
-            let (row, number, value) = look_of(names, look)?;
-            if value {
-                Ok(Act::Choose(Block::AtLeast(row, number)))
-            } else {
-                Err(LineFault::NoPlace)
-            }
-        }
-        ("assert", look) => {
-            let (row, number, value) = look_of(names, look)?;
+    match names.words.text(*word) {
+        "try" => tried(names, rest),
+        "if" => match look_of(names, rest)? {
+            (row, number, true) => Ok(Act::Choose(Block::AtLeast(row, number))),
+            _ => Err(LineFault::NoPlace),
+        },
+        "assert" => {
+            let (row, number, value) = look_of(names, rest)?;
             Ok(Act::Signal(Signal::AssertAtLeast(row, number, value)))
         }
-        ("set", [name, number]) => Ok(Act::Signal(set_counter(names, *name, *number)?)),
-        ("sleep", [condvar, or, last])
-            if names.words.is(*or, "or") && names.words.is(*last, "timeout") => {
-            Ok(Act::Choose(Block::TimedSleep(condvar_of(names, *condvar)?)))
-        }
-        ("idle", []) => Ok(Act::Signal(Signal::Idle(0))),
-        (word, [name]) => match signal(names, word, *name)? {
-            Some(signal) => Ok(Act::Signal(signal)),
-            None => Ok(Act::Call(read_call(names, fields)?)),
+        word => match rest {
+            [] => alone(word),
+            [name] => match signal(names, word, *name)? {
+                Some(signal) => Ok(Act::Signal(signal)),
+                None => Ok(Act::Call(read_call(names, fields)?)),
+            },
+            [first, rest @ ..] => several(names, fields, (word, *first), rest),
         },
+    }
+}
+
+/// Reads an act of one word.
+fn alone(word: &str) -> Result<Act, LineFault> {
+    match word {
+        "repeat" => Ok(Act::Choose(Block::Repeat)),
+        "either" => Ok(Act::Choose(Block::Either)),
+        "idle" => Ok(Act::Signal(Signal::Idle(0))),
+        _ => Err(LineFault::NoPlace),
+    }
+}
+
+/// Reads an act of a word, a name and the words after it, which together are these fields.
+fn several(
+    names: &Names,
+    fields: &[usize],
+    begin: (&str, usize),
+    rest: &[usize],
+) -> Result<Act, LineFault> {
+    match (begin, rest) {
+        (("set", name), [number]) => Ok(Act::Signal(set_counter(names, name, *number)?)),
+        (("sleep", condvar), [or, last])
+            if names.words.is(*or, "or") && names.words.is(*last, "timeout") => {
+            Ok(Act::Choose(Block::TimedSleep(condvar_of(names, condvar)?)))
+        }
         _ => Ok(Act::Call(read_call(names, fields)?)),
     }
 }

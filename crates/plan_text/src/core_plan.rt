@@ -1,24 +1,14 @@
 //! What is searched: the locks of a plan, and the places of its parties, with their names and lines.
-use crate::bad_lines::{BadLines, fault_of};
-use crate::begun::check_begun;
-use crate::fault::TextFault;
-use crate::files::Files;
-use crate::forms::{FORMS, Form, Role};
-use crate::includes::scan_all;
-use crate::line::Line;
-use crate::line_fault::{LineFault, Refusal, write_callers};
-use crate::line_list::expand;
-use crate::misread::misread;
+use crate::bad_lines::BadLines;
+use crate::begun::{tell_never, tell_unknown};
 use crate::names::Names;
-use crate::origin::{LineAt, Origin};
-use crate::origins::Origins;
 use crate::programs::Programs;
-use crate::reading::read;
-use crate::scan::Scanned;
-use crate::sources::Sources;
 use crate::tree::Tree;
-use crate::words::Words;
 use lock_plan::{CallFault, Plan, PlanFault, PlanLock};
+use plan_lines::{
+    Files, Line, LineAt, LineFault, Origin, Origins, Refusal, Role, Scanned, Sources, TextFault,
+    Words, Written, meant, misread, read, scan_plan, write_callers,
+};
 use std::alloc::{AllocError, Global};
 use std::mem::replace;
 
@@ -53,18 +43,23 @@ pub fn read_plan<F: Files>(
     files: &mut F,
 ) -> Result<Core, TextFault> {
     // each exit that drops a value of many fields is proved anew, so the work is done on a borrow
-    let mut scanned = scan_all(alloc, sources, files)?;
+    let mut scanned = scan_plan(alloc, sources, files)?;
     read_scanned(alloc, &mut scanned)
 }
 
 /// Reads a scanned text, and takes its words.
 fn read_scanned(alloc: Global, scanned: &mut Scanned) -> Result<Core, TextFault> {
-    let lines = expand(alloc, &mut scanned.text, scanned.lines.as_slice())?;
     let words = replace(&mut scanned.text.words, Words::new(alloc));
     let mut tree = Tree::new(alloc, Names::new(alloc, words));
     tree.origins = replace(&mut scanned.text.origins, Origins::new(alloc));
     let fields = scanned.text.fields.as_slice();
-    read_tree(alloc, &mut tree, fields, lines.as_slice(), scanned.number)
+    read_tree(
+        alloc,
+        &mut tree,
+        fields,
+        scanned.lines.as_slice(),
+        scanned.number,
+    )
 }
 
 /// Reads lines into a tree, and elaborates it. The line after the last has the number `end`.
@@ -76,7 +71,11 @@ fn read_tree(
     end: u64,
 ) -> Result<Core, TextFault> {
     add_lines(alloc, tree, fields, lines, end)?;
-    check_begun(alloc, tree)?;
+    elaborated(alloc, tree)
+}
+
+/// Elaborates a tree, and takes its names.
+fn elaborated(alloc: Global, tree: &mut Tree) -> Result<Core, TextFault> {
     let mut programs = Programs::new(alloc);
     match programs.add_all(alloc, tree) {
         Ok(()) => Ok(Core::of(alloc, tree, programs)),
@@ -84,7 +83,7 @@ fn read_tree(
     }
 }
 
-/// Adds lines to a tree, and looks at its end.
+/// Adds lines to a tree, unless some are bad.
 fn add_lines(
     alloc: Global,
     tree: &mut Tree,
@@ -93,13 +92,34 @@ fn add_lines(
     end: u64,
 ) -> Result<(), TextFault> {
     let mut bad = BadLines::new(alloc);
-    add_each(alloc, tree, &mut bad, fields, lines)?;
+    match add_but_bad(alloc, tree, &mut bad, fields, lines, end) {
+        Ok(()) => bad.fault(alloc),
+        Err(_) => Err(TextFault::OutOfMemory),
+    }
+}
+
+/// Adds lines to a tree, but the bad ones, and looks at its end. Of good lines, looks at the parties that they name and start.
+fn add_but_bad(
+    alloc: Global,
+    tree: &mut Tree,
+    bad: &mut BadLines,
+    fields: &[usize],
+    lines: &[Line],
+    end: u64,
+) -> Result<(), AllocError> {
+    add_each(alloc, tree, bad, fields, lines)?;
     if !bad.is_full() {
         if let Some(fault) = tree.end_fault(lines.is_empty()) {
             bad.tell(alloc, tree, LineAt::alone(end), 0, fault)?;
         }
     }
-    bad.fault(alloc)
+    if bad.is_empty() {
+        tell_unknown(alloc, tree, bad)?;
+    }
+    if bad.is_empty() {
+        tell_never(alloc, tree, bad)?;
+    }
+    Ok(())
 }
 
 /// Adds lines to a tree, but the bad ones.
@@ -109,7 +129,7 @@ fn add_each(
     bad: &mut BadLines,
     fields: &[usize],
     lines: &[Line],
-) -> Result<(), TextFault> {
+) -> Result<(), AllocError> {
     for line in lines {
         if bad.is_full() {
             break;
@@ -117,7 +137,7 @@ fn add_each(
         let words = line.fields(fields);
         match add_line(alloc, tree, *line, words) {
             Ok(()) => {}
-            Err(Refusal::OutOfMemory) => return Err(TextFault::OutOfMemory),
+            Err(Refusal::OutOfMemory) => return Err(AllocError),
             Err(Refusal::Bad(fault)) => {
                 bad.add(alloc, tree, line.at, words, fault)?;
                 recover(alloc, tree, bad, *line, words, fault)?;
@@ -135,12 +155,12 @@ fn recover(
     line: Line,
     fields: &[usize],
     fault: LineFault,
-) -> Result<(), TextFault> {
+) -> Result<(), AllocError> {
     let Some(form) = meant(&tree.names.words, fields, fault) else {
         return Ok(());
     };
     match form.2 {
-        Role::Lock(_) | Role::Counter(_) | Role::Condvar | Role::Barrier | Role::Latch => {
+        role if role.declares() => {
             if let [_, name, ..] = fields {
                 bad.misdeclare(*name)?;
             }
@@ -151,18 +171,6 @@ fn recover(
     Ok(())
 }
 
-/// Returns the form of a bad line of these words: of its first word, or of the one that is like it.
-fn meant(words: &Words, fields: &[usize], fault: LineFault) -> Option<Form> {
-    let first = fields.first().copied()?;
-    match (words.form(first), fault) {
-        (Some(form), _) => Some(form),
-        (None, LineFault::Misspelt(_, near)) => {
-            FORMS.iter().find(|form| form.0 == near).copied()
-        }
-        _ => None,
-    }
-}
-
 /// Adds a line of these words to the tree.
 fn add_line(alloc: Global, tree: &mut Tree, line: Line, fields: &[usize]) -> Result<(), Refusal> {
     if !line.is_utf8 {
@@ -170,10 +178,13 @@ fn add_line(alloc: Global, tree: &mut Tree, line: Line, fields: &[usize]) -> Res
     }
     let word = fields.first().copied().unwrap_or(0);
     let words = &tree.names.words;
+    let is_uncalled = matches!(line.written, Written::Uncalled);
     match (
         words.form(word),
         read(words, &mut tree.looks, fields, line.written)?,
     ) {
+        (Some(form), _) if is_uncalled && form.2.declares() => tree.outside_blocks(word),
+        (Some(form), Some(said)) if is_uncalled => tree.turn_uncalled(line.at, form, said),
         (Some(form), Some(said)) => tree.add(alloc, line.at, word, form, said),
         _ => Err(Refusal::Bad(misread(alloc, words, fields)?)),
     }
@@ -243,5 +254,5 @@ fn call_fault(alloc: Global, origin: Origin, why: CallFault) -> TextFault {
 fn call_fault_of(alloc: Global, origin: Origin, why: CallFault) -> Result<TextFault, AllocError> {
     let mut text = format!(in alloc; "{why}")?;
     write_callers(&mut text, origin)?;
-    fault_of(alloc, origin, 0, text)
+    TextFault::of(alloc, origin, 0, text)
 }

@@ -1,21 +1,16 @@
 //! Reading the text of a core.
-use crate::bad_lines::{fault_of, word_of};
+use crate::bad_lines::word_of;
 use crate::core_act::act;
 use crate::core_plan::Core;
 use crate::core_text::has_two_ways;
-use crate::fault::TextFault;
-use crate::forms::Role;
-use crate::line::{Line, Written};
-use crate::line_fault::{LineFault, Refusal};
 use crate::names::Names;
-use crate::origin::{LineAt, Origin};
-use crate::origins::Origins;
 use crate::programs::Programs;
-use crate::reading::read;
-use crate::scan::{Scanned, scan};
 use crate::tree::Tree;
-use crate::words::Words;
 use lock_plan::ProgramPlace;
+use plan_lines::{
+    Line, LineAt, LineFault, Origin, Origins, Refusal, Role, Scanned, TextFault, Words, Written,
+    read, scan,
+};
 use script_text::unsigned;
 use std::alloc::{AllocError, Global};
 use std::mem::replace;
@@ -158,7 +153,7 @@ type Bad = (u64, usize, LineFault);
 fn fault(alloc: Global, words: &Words, origins: &Origins, bad: Bad) -> TextFault {
     let origin = Origin::new(LineAt::alone(bad.0), origins);
     let made = match bad.2.why(alloc, words, origins) {
-        Ok(why) => fault_of(alloc, origin, bad.1, why),
+        Ok(why) => TextFault::of(alloc, origin, bad.1, why),
         Err(refused) => Err(refused),
     };
     match made {

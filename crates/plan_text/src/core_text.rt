@@ -1,11 +1,10 @@
 //! The text of a core: what is searched, a line for each place.
 use crate::core_plan::Core;
-use crate::counter::{Counter, CounterKind};
 use crate::names::Names;
-use crate::origin::Origin;
 use itoa::Buffer;
 use lock_modes::{Kind, LockStep, Mode, ModeStep};
 use lock_plan::{Act, Block, PlanCall, PlanLock, ProgramPlace, Signal};
+use plan_lines::{Counter, CounterKind, Origin};
 use std::alloc::{AllocError, Global};
 
 /// The width of a place's number, and of its number and act.
@@ -102,20 +101,31 @@ fn write_place(
     origin: Origin,
 ) -> Result<(), AllocError> {
     let start = text.len();
+    write_number(text, number)?;
+    write_act(text, names, place.act)?;
+    pad(text, start, ACT_WIDTH)?;
+    write_ways(text, place, places)?;
+    pad(text, start, WAYS_WIDTH)?;
+    writeln!(text, " line {origin}")
+}
+
+/// Appends the number of a place, from 1.
+fn write_number(text: &mut String, number: usize) -> Result<(), AllocError> {
     let mut digits = Buffer::new();
     let digits = digits.format(number.saturating_add(1) as u64);
     write_spaces(text, NUMBER_WIDTH.saturating_sub(digits.len()))?;
-    write!(text, "{digits}  ")?;
-    write_act(text, names, place.act)?;
-    pad(text, start, ACT_WIDTH)?;
+    write!(text, "{digits}  ")
+}
+
+/// Appends where a place of a program with so many places leads.
+fn write_ways(text: &mut String, place: ProgramPlace, places: usize) -> Result<(), AllocError> {
     text.push_str(" -> ")?;
     write_way(text, place.next, places)?;
     if has_two_ways(place.act) {
         text.push_str(" | ")?;
         write_way(text, place.other, places)?;
     }
-    pad(text, start, WAYS_WIDTH)?;
-    writeln!(text, " line {origin}")
+    Ok(())
 }
 
 /// Returns whether a place with this act has two ways.

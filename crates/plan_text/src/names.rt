@@ -1,11 +1,7 @@
 //! The names of a plan.
-use crate::counter::{Counter, CounterKind};
-use crate::words::Words;
 use indexmap::IndexSet;
+use plan_lines::{Counter, CounterKind, NameSet, Words};
 use std::alloc::Global;
-
-/// Names in the order in which they were added, each once, by the numbers of words.
-pub(crate) type NameSet = IndexSet<usize>;
 
 /// The names of a plan's locks, parties, counters and condition variables, in the plan's order.
 #[derive(Drop)]

@@ -1,6 +1,5 @@
 //! The blocks that are open.
-use crate::line_fault::{LineFault, Refusal};
-use crate::origin::LineAt;
+use plan_lines::{LineAt, LineFault, Refusal};
 use std::alloc::{AllocError, Global};
 
 /// The most blocks that may be open.

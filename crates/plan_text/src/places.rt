@@ -1,12 +1,9 @@
 //! From the tree of a party to the places of its program.
-use crate::counter::Counter;
-use crate::line::Written;
 use crate::names::Names;
-use crate::origin::LineAt;
-use crate::said::{Condition, Join, Look, Receipt, Said, WaitLine};
 use crate::tree::{Node, Tree};
 use lock_modes::{Kind, LockStep, Mode, ModeStep};
 use lock_plan::{Act, Block, PlanCall, PlanLock, ProgramPlace, Signal};
+use plan_lines::{Condition, Counter, Join, LineAt, Look, Receipt, Said, WaitLine, Written};
 use std::alloc::{AllocError, Global};
 
 /// The places of a program, and the line of each.

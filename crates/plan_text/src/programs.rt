@@ -1,11 +1,9 @@
 //! The programs of a plan's rows, and the lines of their places.
 use crate::alike::{Rows, alike_rows, is_copy, rows_of};
-use crate::counter::Counter;
-use crate::origin::{LineAt, Origin};
-use crate::origins::Origins;
 use crate::places::places_of;
 use crate::tree::{Group, Tree};
 use lock_plan::{Act, ProgramPlace, Signal};
+use plan_lines::{Counter, LineAt, Origin, Origins};
 use std::alloc::{AllocError, Global};
 
 /// The programs of the rows: the parties, and then the counters. Parties of one line share a program.

@@ -1,15 +1,12 @@
 //! The tree of a text: what it declares, and the lines of its parties.
-use crate::counter::CounterKind;
-use crate::forms::{Form, Role};
-use crate::line::{Line, Written};
-use crate::line_fault::{LineFault, NameKind, Refusal};
-use crate::names::{NameSet, Names};
+use crate::names::Names;
 use crate::open_block::{OpenBlocks, OpenPart};
-use crate::origin::LineAt;
-use crate::origins::Origins;
-use crate::said::{Condition, Looks, Parties, Receipt, Said, WaitLine};
 use indexmap::IndexSet;
 use lock_plan::PlanLock;
+use plan_lines::{
+    Condition, CounterKind, Form, Line, LineAt, LineFault, LockLine, Looks, NameKind, NameSet,
+    Origins, Parties, Receipt, Refusal, Role, Said, WaitLine, Written,
+};
 use std::alloc::{AllocError, Global};
 
 /// A line of a party, and what it says.
@@ -94,9 +91,7 @@ impl Tree {
         match said {
             Said::Define(name, parameters) => {
                 self.outside_blocks(word)?;
-                add_name(&mut self.functions, NameKind::Function, name)?;
-                add(&mut self.parameters, parameters)?;
-                self.open.begin(OpenPart::Function, form.0, line)
+                self.define(line, form, name, parameters)
             }
             Said::End if self.open.has_function() => self.open.end(),
             Said::Lock(..) | Said::Counter(..) | Said::Condvar(_) => {
@@ -111,15 +106,34 @@ impl Tree {
                 let Some(group) = self.groups.last() else {
                     return Err(Refusal::Bad(LineFault::NoParty(word)));
                 };
-                let (first, count) = (group.first, group.count);
-                self.known_names(said)?;
-                self.written_out(said)?;
-                self.mention(line, first, count, said)?;
-                self.turn_blocks(line, form, said)?;
-                self.push(Node { line, said })?;
-                Ok(())
+                let parties = (group.first, group.count);
+                self.add_node(form, parties, Node { line, said })
             }
         }
+    }
+
+    /// Adds a function, and begins its lines.
+    fn define(
+        &mut self,
+        line: LineAt,
+        form: Form,
+        name: usize,
+        parameters: usize,
+    ) -> Result<(), Refusal> {
+        add_name(&mut self.functions, NameKind::Function, name)?;
+        add(&mut self.parameters, parameters)?;
+        self.open.begin(OpenPart::Function, form.0, line)
+    }
+
+    /// Adds a line to the parties of the last group: the first one, and how many there are.
+    fn add_node(&mut self, form: Form, parties: (usize, usize), node: Node) -> Result<(), Refusal> {
+        let (first, count) = parties;
+        self.known_names(node.said)?;
+        self.written_out(node.said)?;
+        self.mention(node.line, first, count, node.said)?;
+        self.turn_blocks(node.line, form, node.said)?;
+        self.push(node)?;
+        Ok(())
     }
 
     /// Returns whether a line starts a party.
@@ -186,8 +200,24 @@ impl Tree {
         Ok(())
     }
 
+    /// Turns to the blocks that are open after a line of a function that no line calls. The line adds nothing else.
+    pub(crate) fn turn_uncalled(
+        &mut self,
+        line: LineAt,
+        form: Form,
+        said: Said,
+    ) -> Result<(), Refusal> {
+        match (said, form.2) {
+            // the lines of its function come where it is written out
+            (Said::Invoke(..), _) => Ok(()),
+            (Said::Unclosed(_), Role::If) => self.open.begin(OpenPart::First, form.0, line),
+            (Said::Unclosed(_), Role::While) => self.open.begin(OpenPart::Loop, form.0, line),
+            _ => self.turn_blocks(line, form, said),
+        }
+    }
+
     /// Refuses a line in a block.
-    fn outside_blocks(&self, word: usize) -> Result<(), Refusal> {
+    pub(crate) fn outside_blocks(&self, word: usize) -> Result<(), Refusal> {
         match self.open.innermost() {
             None => Ok(()),
             Some((begin, line)) => Err(Refusal::Bad(LineFault::InBlock(word, begin, line))),
@@ -199,7 +229,7 @@ impl Tree {
         match said {
             Said::Lock(lock, name) => {
                 add_name(&mut self.names.locks, NameKind::Lock, name)?;
-                add(&mut self.locks, lock)?;
+                add(&mut self.locks, plan_lock(lock))?;
             }
             Said::Counter(counter, name) => {
                 if !is_new(&mut self.names.counter_names, name)? {
@@ -452,6 +482,16 @@ impl Tree {
             _ => return Ok(()),
         };
         self.open.begin(begun, form.0, line)
+    }
+}
+
+/// Makes the lock that a line declares.
+fn plan_lock(line: LockLine) -> PlanLock {
+    PlanLock {
+        kind: line.kind,
+        limit: line.limit,
+        bar: line.bar,
+        fair: line.fair,
     }
 }
 

@@ -6,7 +6,8 @@ use crate::answer::stand::place_at;
 use crate::answer::step::{lock_at, write_made};
 use crate::answer::stop::{holders, is_full, stop_word, write_awaited};
 use lock_plan::{Act, PlanCall, Stopped};
-use plan_text::{Origin, Programs};
+use plan_lines::Origin;
+use plan_text::Programs;
 use std::alloc::{AllocError, Global};
 
 /// Makes the object of an answer: its word, and the states, or the steps, the stopped parties and those that go on.

@@ -10,7 +10,7 @@ use std::fmt;
 
 /// What a name is one of.
 #[derive(Clone, Copy)]
-pub(crate) enum NameKind {
+pub enum NameKind {
     Lock,
     Counter(CounterKind),
     Condvar,
@@ -20,7 +20,7 @@ pub(crate) enum NameKind {
 
 /// Why a line is bad. Words are told by their numbers.
 #[derive(Clone, Copy)]
-pub(crate) enum LineFault {
+pub enum LineFault {
     /// The text has no line.
     NothingSaid,
     NotUtf8,
@@ -94,7 +94,7 @@ pub(crate) enum LineFault {
 
 /// Why a line does not go on: it is bad, or memory was refused.
 #[derive(Clone, Copy)]
-pub(crate) enum Refusal {
+pub enum Refusal {
     Bad(LineFault),
     OutOfMemory,
 }
@@ -107,7 +107,7 @@ impl From<AllocError> for Refusal {
 
 impl LineFault {
     /// Makes the reason's text.
-    pub(crate) fn why(
+    pub fn why(
         self,
         alloc: Global,
         words: &Words,
@@ -121,8 +121,25 @@ impl LineFault {
         format!(in alloc; "{why}")
     }
 
+    /// Returns the reason's text, if it is the same for each line.
+    fn plain(self) -> Option<&'static str> {
+        Some(match self {
+            LineFault::NothingSaid => "the plan says nothing",
+            LineFault::NotUtf8 => "not UTF-8",
+            LineFault::Unfit(text) => text,
+            LineFault::TooDeep => "more than 64 open blocks",
+            LineFault::CopiesStart => "'start' in a party with copies",
+            LineFault::LoopStarts => "'start' in a loop",
+            LineFault::UnknownParty => "unknown party",
+            LineFault::NeverBegins => "never begins",
+            LineFault::NoPlace => "write 'NUMBER ACT -> PLACE [| PLACE] [line N [from N]..]'",
+            LineFault::NoSuchPlace => "a way leads to no place of its party",
+            _ => return None,
+        })
+    }
+
     /// Makes the reason's text, with the calls around the line.
-    pub(crate) fn why_from(
+    pub fn why_from(
         self,
         alloc: Global,
         words: &Words,
@@ -135,7 +152,7 @@ impl LineFault {
 }
 
 /// Appends the calls around a line to the reason why it is bad.
-pub(crate) fn write_callers(text: &mut String, origin: Origin) -> Result<(), AllocError> {
+pub fn write_callers(text: &mut String, origin: Origin) -> Result<(), AllocError> {
     let mut here = origin;
     for _caller in 0..origin.most_callers() {
         let Some(caller) = here.caller() else {
@@ -173,19 +190,17 @@ impl fmt::Display for NameKind {
 
 impl fmt::Display for Why<'_> {
     fn fmt<W: fmt::Write>(&self, f: &mut fmt::Formatter<W>) -> fmt::Result {
+        match self.fault.plain() {
+            Some(text) => f.write_str(text),
+            None => self.fmt_line(f),
+        }
+    }
+}
+
+impl Why<'_> {
+    /// Shows the reason of a line with another line, another number or other fields in it.
+    fn fmt_line<W: fmt::Write>(&self, f: &mut fmt::Formatter<W>) -> fmt::Result {
         match self.fault {
-            LineFault::NothingSaid => f.write_str("the plan says nothing"),
-            LineFault::NotUtf8 => f.write_str("not UTF-8"),
-            LineFault::Unfit(text) => f.write_str(text),
-            LineFault::TooDeep => f.write_str("more than 64 open blocks"),
-            LineFault::CopiesStart => f.write_str("'start' in a party with copies"),
-            LineFault::LoopStarts => f.write_str("'start' in a loop"),
-            LineFault::UnknownParty => f.write_str("unknown party"),
-            LineFault::NeverBegins => f.write_str("never begins"),
-            LineFault::NoPlace => f.write_str(
-                "write 'NUMBER ACT -> PLACE [| PLACE] [line N [from N]..]'",
-            ),
-            LineFault::NoSuchPlace => f.write_str("a way leads to no place of its party"),
             LineFault::NoPlaceNumber(word, next) => {
                 write!(f, "'{}' in the place of {next}", self.text(word))
             }
@@ -198,14 +213,14 @@ impl fmt::Display for Why<'_> {
                 self.text(word),
                 self.line(line)
             ),
-            LineFault::Form(Form(word, "", _)) => write!(f, "'{word}' stands alone in its line"),
+            LineFault::Form(Form(word, form, _)) if form.is_empty() => {
+                write!(f, "'{word}' stands alone in its line")
+            }
             LineFault::Form(Form(word, form, _)) => write!(f, "write '{word} {form}'"),
             _ => self.fmt_word(f),
         }
     }
-}
 
-impl Why<'_> {
     fn text(&self, word: usize) -> &str {
         self.words.text(word)
     }

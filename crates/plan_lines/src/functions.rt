@@ -1,13 +1,16 @@
 //! Functions: `def NAME PARAMETER..` .. `end`, and `call NAME ARGUMENT..`.
+//!
+//! The lines of a function are read where it is called. A function that no line calls keeps them, and they are read there.
 use crate::fault::TextFault;
 use crate::forms::Role;
 use crate::indexed::is_head;
 use crate::line::{Line, Text, Written};
 use crate::line_list::LineList;
-use crate::names::NameSet;
 use crate::origin::LineAt;
 use crate::repeated::{Part, part_of};
 use crate::replacements::Replacements;
+use crate::uncalled::uncalled;
+use crate::words::NameSet;
 use indexmap::IndexSet;
 use script_text::SCRIPT_LIMIT;
 use std::alloc::{AllocError, Global};
@@ -19,14 +22,18 @@ struct Function {
     head: Line,
     first: usize,
     end: usize,
+    /// Where its first line is among those that are written out.
+    place: usize,
+    is_called: bool,
 }
 
 /// The lines that are written out so far.
 #[derive(Drop)]
 struct Calls<'a> {
     lines: &'a [Line],
-    /// The functions so far, by their names.
+    /// The names of the functions so far, and the number of the first function with each of them.
     names: NameSet,
+    numbers: Vec<usize>,
     functions: Vec<Function>,
     /// The number of the function of each call that is written out.
     callees: Vec<usize>,
@@ -36,7 +43,7 @@ struct Calls<'a> {
     made: LineList,
 }
 
-/// Puts the lines of functions below the calls of them, each with an `end` below those, and leaves the functions empty.
+/// Puts the lines of functions below the calls of them, each with an `end` below those, and leaves these functions empty.
 pub(crate) fn written_out(
     alloc: Global,
     text: &mut Text,
@@ -50,14 +57,14 @@ pub(crate) fn written_out(
     let mut calls = Calls {
         lines,
         names: IndexSet::new(alloc),
+        numbers: Vec::new(alloc),
         functions: Vec::new(alloc),
         callees: Vec::new(alloc),
         replacements: Replacements::new(alloc, text)?,
         pending: Vec::new(alloc),
         made: LineList::new(alloc),
     };
-    calls.add_all(alloc, text)?;
-    Ok(replace(&mut calls.made.lines, Vec::new(alloc)))
+    calls.take_all(alloc, text)
 }
 
 impl Calls<'_> {
@@ -80,23 +87,29 @@ impl Calls<'_> {
 
     /// Adds a function, and returns where the line after it is.
     fn define(&mut self, text: &Text, at: usize, head: Line) -> Result<usize, TextFault> {
-        self.made.push(head)?;
         let first = at.saturating_add(1);
         let (end, has_end) = end_of(text, self.lines, first);
-        let mut next = end;
-        if has_end {
-            if let Some(last) = self.lines.get(end) {
-                self.made.push(*last)?;
-            }
-            next = end.saturating_add(1);
-        }
         if let [_, name, ..] = text.fields(head) {
             let (_, is_new) = self.names.insert_full(*name)?;
             if is_new {
-                self.functions.push(Function { head, first, end })?;
+                self.numbers.push(self.functions.len())?;
             }
         }
-        Ok(next)
+        self.functions.push(Function {
+            head,
+            first,
+            end,
+            place: self.made.lines.len(),
+            is_called: false,
+        })?;
+        self.made.push(head)?;
+        match self.lines.get(end) {
+            Some(last) if has_end => {
+                self.made.push(*last)?;
+                Ok(end.saturating_add(1))
+            }
+            _ => Ok(end),
+        }
     }
 
     /// Adds the pending lines, and the lines of the functions that these call.
@@ -120,7 +133,7 @@ impl Calls<'_> {
             return None;
         }
         let fields = text.fields(line);
-        let number = self.names.get_index_of(fields.get(1)?)?;
+        let number = *self.numbers.get(self.names.get_index_of(fields.get(1)?)?)?;
         let function = self.functions.get(number)?;
         let is_above = match line.at.call.checked_sub(1) {
             None => true,
@@ -142,9 +155,11 @@ impl Calls<'_> {
         line: Line,
         number: usize,
     ) -> Result<(), TextFault> {
-        let Some(function) = self.functions.get(number).copied() else {
+        let Some(function) = self.functions.get_mut(number) else {
             return Ok(());
         };
+        function.is_called = true;
+        let function = *function;
         self.made.push(Line {
             written: Written::Block,
             ..line
@@ -160,6 +175,47 @@ impl Calls<'_> {
                 let inside = text.replaced(&self.replacements, *inside, 1)?;
                 let at = LineAt { call, ..inside.at };
                 self.pending.push(Line { at, ..inside })?;
+            }
+        }
+        self.replacements.release(0);
+        Ok(())
+    }
+
+    /// Adds all lines, and takes them with those of each function that no line calls below its first one.
+    fn take_all(&mut self, alloc: Global, text: &mut Text) -> Result<Vec<Line>, TextFault> {
+        self.add_all(alloc, text)?;
+        let made = replace(&mut self.made, LineList::new(alloc));
+        let mut next = 0usize;
+        for (at, line) in made.lines.iter().enumerate() {
+            self.made.push(*line)?;
+            match self.functions.get(next).copied() {
+                Some(function) if function.place == at => {
+                    next = next.saturating_add(1);
+                    if !function.is_called {
+                        self.add_uncalled(alloc, text, function)?;
+                    }
+                }
+                _ => {}
+            }
+        }
+        Ok(replace(&mut self.made.lines, Vec::new(alloc)))
+    }
+
+    /// Adds the lines of a function that no line calls. A parameter is `1`, which is a name and a number.
+    fn add_uncalled(
+        &mut self,
+        alloc: Global,
+        text: &mut Text,
+        function: Function,
+    ) -> Result<(), TextFault> {
+        let argument = text.words.number(alloc, "1")?;
+        for parameter in text.fields(function.head).iter().skip(2) {
+            self.replacements.bind(0, *parameter, argument)?;
+        }
+        for at in function.first..function.end {
+            if let Some(line) = self.lines.get(at) {
+                let line = uncalled(alloc, text, &self.replacements, *line)?;
+                self.made.push(line)?;
             }
         }
         self.replacements.release(0);

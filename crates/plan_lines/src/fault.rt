@@ -26,7 +26,7 @@ pub struct BadLine {
 
 impl BadLine {
     /// Makes the line from which something comes, of which this word is wrong.
-    pub(crate) fn of(
+    pub fn of(
         alloc: Global,
         origin: Origin,
         word: usize,
@@ -38,6 +38,20 @@ impl BadLine {
             word,
             why,
         })
+    }
+}
+
+impl TextFault {
+    /// Makes the fault of the line from which something comes, of which this word is wrong.
+    pub fn of(
+        alloc: Global,
+        origin: Origin,
+        word: usize,
+        why: String,
+    ) -> Result<TextFault, AllocError> {
+        let mut told = Vec::new(alloc);
+        told.push(BadLine::of(alloc, origin, word, why)?)?;
+        Ok(TextFault::Lines(told))
     }
 }
 

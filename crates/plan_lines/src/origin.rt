@@ -4,12 +4,12 @@ use std::fmt;
 
 /// The number of a line, from 1, the file that has it, and the call for which it is written out.
 #[derive(Clone, Copy)]
-pub(crate) struct LineAt {
-    pub(crate) number: u64,
+pub struct LineAt {
+    pub number: u64,
     /// The number of the included file, from 1, or 0 for the plan's own text.
-    pub(crate) file: usize,
+    pub file: usize,
     /// The number of the call among all calls, from 1, or 0 for none.
-    pub(crate) call: usize,
+    pub call: usize,
 }
 
 /// The line of a place, and the lines of the calls around it. It shows as `LINE from CALL from CALL`, the innermost call first.
@@ -22,7 +22,7 @@ pub struct Origin<'a> {
 
 impl LineAt {
     /// Makes a line of the plan's own text that no call is around.
-    pub(crate) fn alone(number: u64) -> LineAt {
+    pub fn alone(number: u64) -> LineAt {
         LineAt {
             number,
             file: 0,
@@ -32,7 +32,7 @@ impl LineAt {
 }
 
 impl<'a> Origin<'a> {
-    pub(crate) fn new(at: LineAt, origins: &'a Origins) -> Origin<'a> {
+    pub fn new(at: LineAt, origins: &'a Origins) -> Origin<'a> {
         Origin { at, origins }
     }
 

@@ -7,11 +7,11 @@ use std::mem::replace;
 
 /// The lines with words of a text.
 #[derive(Drop)]
-pub(crate) struct Scanned {
-    pub(crate) text: Text,
-    pub(crate) lines: Vec<Line>,
+pub struct Scanned {
+    pub text: Text,
+    pub lines: Vec<Line>,
     /// The number of the next line: at the end of a text that of the line after the last.
-    pub(crate) number: u64,
+    pub number: u64,
     /// Where the words of the line begin.
     first: usize,
     /// Where the word begins that is being scanned.
@@ -23,7 +23,7 @@ pub(crate) struct Scanned {
 }
 
 /// Scans a text. Blanks separate words, a line feed ends a line, and a comment reaches from `#` to the end of its line.
-pub(crate) fn scan(alloc: Global, bytes: &[u8]) -> Result<Scanned, AllocError> {
+pub fn scan(alloc: Global, bytes: &[u8]) -> Result<Scanned, AllocError> {
     let mut scanned = Scanned::new(alloc);
     match scanned.read_first(alloc, bytes) {
         Ok(()) => Ok(scanned),

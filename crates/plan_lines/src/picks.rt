@@ -4,10 +4,10 @@ use crate::forms::Role;
 use crate::indexed::is_head;
 use crate::line::{Line, Text, Written};
 use crate::line_list::LineList;
-use crate::names::NameSet;
 use crate::repeated::{Part, part_of};
 use crate::replacements::Replacements;
 use crate::rows::MOST;
+use crate::words::NameSet;
 use indexmap::IndexSet;
 use script_text::SCRIPT_LIMIT;
 use std::alloc::{AllocError, Global};
@@ -42,15 +42,16 @@ pub(crate) fn picked(
     if !lines.iter().any(|line| text.has_role(*line, Role::Pick)) {
         return Ok(Vec::from_slice(alloc, lines)?);
     }
+    let locks = locks(alloc, text, lines)?;
+    let replacements = Replacements::new(alloc, text)?;
     let mut picks = Picks {
-        locks: locks(alloc, text, lines)?,
-        replacements: Replacements::new(alloc, text)?,
+        locks,
+        replacements,
         depth: 0,
         pending: Vec::new(alloc),
         made: LineList::new(alloc),
     };
-    picks.add_all(alloc, text, lines)?;
-    Ok(replace(&mut picks.made.lines, Vec::new(alloc)))
+    picks.take_all(alloc, text, lines)
 }
 
 /// Returns the names of all locks.
@@ -68,7 +69,13 @@ fn locks(alloc: Global, text: &Text, lines: &[Line]) -> Result<NameSet, AllocErr
 }
 
 impl Picks {
-    fn add_all(&mut self, alloc: Global, text: &mut Text, lines: &[Line]) -> Result<(), TextFault> {
+    /// Adds all lines, and takes what is written out.
+    fn take_all(
+        &mut self,
+        alloc: Global,
+        text: &mut Text,
+        lines: &[Line],
+    ) -> Result<Vec<Line>, TextFault> {
         for line in lines.iter().rev() {
             self.pending.push(Item::Line(*line))?;
         }
@@ -80,7 +87,7 @@ impl Picks {
                 Some(Item::Line(line)) => self.add(alloc, text, line)?,
             }
         }
-        Ok(())
+        Ok(replace(&mut self.made.lines, Vec::new(alloc)))
     }
 
     /// Adds a line.

@@ -1,6 +1,5 @@
 //! Rows: lines that declare `NAME[N]`.
 use crate::fault::TextFault;
-use crate::forms::Role;
 use crate::line::{Line, Text};
 use crate::line_list::LineList;
 use script_text::unsigned;
@@ -44,14 +43,7 @@ fn row(alloc: Global, text: &Text, line: Line) -> Result<Option<(usize, String, 
     let [word, second, ..] = text.fields(line) else {
         return Ok(None);
     };
-    let is_declared = matches!(
-        text.words.form(*word),
-        Some(form) if matches!(
-            form.2,
-            Role::Lock(_) | Role::Counter(_) | Role::Condvar | Role::Barrier | Role::Latch
-        )
-    );
-    if !is_declared {
+    if !text.words.form(*word).is_some_and(|form| form.2.declares()) {
         return Ok(None);
     }
     let Some((name, inside)) = bracketed(text.words.text(*second)) else {

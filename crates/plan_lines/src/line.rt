@@ -8,19 +8,19 @@ use std::alloc::{AllocError, Global};
 
 /// A line of a text, with the place of its words in [`Text::fields`].
 #[derive(Clone, Copy)]
-pub(crate) struct Line {
-    pub(crate) at: LineAt,
+pub struct Line {
+    pub at: LineAt,
     pub(crate) first: usize,
     pub(crate) end: usize,
     /// Its length, with one byte after each word.
     pub(crate) bytes: usize,
-    pub(crate) is_utf8: bool,
-    pub(crate) written: Written,
+    pub is_utf8: bool,
+    pub written: Written,
 }
 
 /// Whether the lines below a line are those that it is short for.
 #[derive(Clone, Copy, PartialEq, Eq)]
-pub(crate) enum Written {
+pub enum Written {
     No,
     /// What the line says is in the lines below it.
     Inline,
@@ -28,11 +28,13 @@ pub(crate) enum Written {
     Block,
     /// No lines say it.
     Refused,
+    /// The line is in a function that no line calls.
+    Uncalled,
 }
 
 impl Line {
     /// Returns the line's words among those of all lines.
-    pub(crate) fn fields(self, fields: &[usize]) -> &[usize] {
+    pub fn fields(self, fields: &[usize]) -> &[usize] {
         if self.first <= self.end && self.end <= fields.len() {
             &fields[self.first..self.end]
         } else {
@@ -43,10 +45,10 @@ impl Line {
 
 /// The words of a text, and those of its lines one after another.
 #[derive(Drop)]
-pub(crate) struct Text {
-    pub(crate) words: Words,
-    pub(crate) fields: Vec<usize>,
-    pub(crate) origins: Origins,
+pub struct Text {
+    pub words: Words,
+    pub fields: Vec<usize>,
+    pub origins: Origins,
 }
 
 impl Text {
@@ -59,9 +61,12 @@ impl Text {
         }
     }
 
-    /// Returns the numbers of a line's words.
+    /// Returns the numbers of a line's words. A line of a function that no line calls shows none, since nothing is written out for it.
     pub(crate) fn fields(&self, line: Line) -> &[usize] {
-        line.fields(self.fields.as_slice())
+        match line.written {
+            Written::Uncalled => &[],
+            _ => line.fields(self.fields.as_slice()),
+        }
     }
 
     /// Returns whether a line begins with a word of this role.

@@ -16,11 +16,7 @@ const LONGEST: usize = 100;
 const UNLIKE: usize = 3;
 
 /// Explains a line of these words that is not in the format.
-pub(crate) fn misread(
-    alloc: Global,
-    words: &Words,
-    fields: &[usize],
-) -> Result<LineFault, AllocError> {
+pub fn misread(alloc: Global, words: &Words, fields: &[usize]) -> Result<LineFault, AllocError> {
     let [word, rest @ ..] = fields else {
         return Ok(LineFault::NothingSaid);
     };
@@ -37,6 +33,18 @@ pub(crate) fn misread(
         }
     }
     Ok(wrong_field(words, *word, form.2, rest).unwrap_or(LineFault::Form(form)))
+}
+
+/// Returns the form of a bad line of these words: of its first word, or of the one that is like it.
+pub fn meant(words: &Words, fields: &[usize], fault: LineFault) -> Option<Form> {
+    let first = fields.first().copied()?;
+    match (words.form(first), fault) {
+        (Some(form), _) => Some(form),
+        (None, LineFault::Misspelt(_, near)) => {
+            FORMS.iter().find(|form| form.0 == near).copied()
+        }
+        _ => None,
+    }
 }
 
 /// Explains a word that no line begins with, by the first one that is most like it.

@@ -3,9 +3,9 @@ use crate::fault::TextFault;
 use crate::forms::Role;
 use crate::line::{Line, Text};
 use crate::line_list::LineList;
-use crate::names::NameSet;
 use crate::reading::number;
 use crate::templates::{Filling, Template, filled};
+use crate::words::NameSet;
 use indexmap::IndexSet;
 use std::alloc::{AllocError, Global};
 use std::mem::replace;
@@ -80,13 +80,23 @@ pub(crate) fn with_gates(
         gates: Vec::new(alloc),
         made: LineList::new(alloc),
     };
-    for line in lines {
-        gates.add(alloc, text, *line)?;
-    }
-    Ok(replace(&mut gates.made.lines, Vec::new(alloc)))
+    gates.take_all(alloc, text, lines)
 }
 
 impl Gates {
+    /// Adds all lines, and takes what is written out.
+    fn take_all(
+        &mut self,
+        alloc: Global,
+        text: &mut Text,
+        lines: &[Line],
+    ) -> Result<Vec<Line>, TextFault> {
+        for line in lines {
+            self.add(alloc, text, *line)?;
+        }
+        Ok(replace(&mut self.made.lines, Vec::new(alloc)))
+    }
+
     fn add(&mut self, alloc: Global, text: &mut Text, line: Line) -> Result<(), TextFault> {
         match self.templates(text, line)? {
             None => self.made.push(line),

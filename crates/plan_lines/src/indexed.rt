@@ -82,8 +82,8 @@ fn push_each(
     Ok(())
 }
 
-/// Makes a line of one of the parties.
-fn line_of(
+/// Makes a line of the party that comes after `copy` others, of `count` parties.
+pub(crate) fn line_of(
     alloc: Global,
     text: &mut Text,
     line: Line,

@@ -4,15 +4,11 @@ use lock_modes::{Kind, LockStep, Mode, ModeStep};
 
 /// A word that lines begin with: the word, what comes after it as a usage line has it, and what such a line does.
 #[derive(Clone, Copy)]
-pub(crate) struct Form(
-    pub(crate) &'static str,
-    pub(crate) &'static str,
-    pub(crate) Role,
-);
+pub struct Form(pub &'static str, pub &'static str, pub Role);
 
 /// What a line with such a word does.
 #[derive(Clone, Copy, PartialEq, Eq)]
-pub(crate) enum Role {
+pub enum Role {
     Lock(Kind),
     /// A flag, a counter, a semaphore or a channel.
     Counter(CounterKind),
@@ -56,6 +52,16 @@ pub(crate) enum Role {
     End,
     /// Stands for the lines of a file.
     Include,
+}
+
+impl Role {
+    /// Returns whether such a line declares a name, but no party and no function.
+    pub fn declares(self) -> bool {
+        matches!(
+            self,
+            Role::Lock(_) | Role::Counter(_) | Role::Condvar | Role::Barrier | Role::Latch
+        )
+    }
 }
 
 /// All words that lines begin with. A word's number in [`Words`](crate::words::Words) is its place here.

@@ -5,6 +5,7 @@ use crate::line::{Line, Text, Written};
 use crate::rows::count;
 use script_text::SCRIPT_LIMIT;
 use std::alloc::{AllocError, Global};
+use std::mem::replace;
 
 /// What a line is for the blocks of a text.
 #[derive(Clone, Copy)]
@@ -32,20 +33,30 @@ pub(crate) fn repeated(alloc: Global, text: &Text, lines: &[Line]) -> Result<Vec
         open: Vec::new(alloc),
         bytes: 0,
     };
-    for line in lines {
-        match part_of(text, *line) {
-            Part::Begins(turns) => unrolled.begin(*line, turns)?,
-            Part::Ends => unrolled.end(*line)?,
-            Part::Neither => unrolled.push(*line)?,
-        }
-        if unrolled.bytes > SCRIPT_LIMIT + 1 {
-            return Err(TextFault::TooLong);
-        }
-    }
-    Ok(unrolled.lines)
+    unrolled.take_all(alloc, text, lines)
 }
 
 impl Unrolled {
+    /// Adds all lines, and takes what is written out.
+    fn take_all(
+        &mut self,
+        alloc: Global,
+        text: &Text,
+        lines: &[Line],
+    ) -> Result<Vec<Line>, TextFault> {
+        for line in lines {
+            match part_of(text, *line) {
+                Part::Begins(turns) => self.begin(*line, turns)?,
+                Part::Ends => self.end(*line)?,
+                Part::Neither => self.push(*line)?,
+            }
+            if self.bytes > SCRIPT_LIMIT + 1 {
+                return Err(TextFault::TooLong);
+            }
+        }
+        Ok(replace(&mut self.lines, Vec::new(alloc)))
+    }
+
     fn push(&mut self, line: Line) -> Result<(), AllocError> {
         self.bytes = self.bytes.saturating_add(line.bytes);
         self.lines.push(line)?;

@@ -2,7 +2,7 @@
 
 /// What a counter is.
 #[derive(Clone, Copy, PartialEq, Eq)]
-pub(crate) enum CounterKind {
+pub enum CounterKind {
     /// A counter of 0 to 1.
     Flag,
     Counter,
@@ -12,15 +12,15 @@ pub(crate) enum CounterKind {
 
 /// A counter: its kind, its greatest value, and its first one.
 #[derive(Clone, Copy)]
-pub(crate) struct Counter {
-    pub(crate) kind: CounterKind,
-    pub(crate) most: usize,
-    pub(crate) first: usize,
+pub struct Counter {
+    pub kind: CounterKind,
+    pub most: usize,
+    pub first: usize,
 }
 
 impl CounterKind {
     /// Returns the word that declares it.
-    pub(crate) fn word(self) -> &'static str {
+    pub fn word(self) -> &'static str {
         match self {
             CounterKind::Flag => "flag",
             CounterKind::Counter => "counter",
@@ -30,7 +30,7 @@ impl CounterKind {
     }
 
     /// Returns the word that moves it up, or down.
-    pub(crate) fn move_word(self, is_up: bool) -> &'static str {
+    pub fn move_word(self, is_up: bool) -> &'static str {
         match (self, is_up) {
             (CounterKind::Flag | CounterKind::Counter, true) => "add",
             (CounterKind::Flag | CounterKind::Counter, false) => "take",
@@ -44,7 +44,7 @@ impl CounterKind {
 
 impl Counter {
     /// Makes a flag.
-    pub(crate) fn flag(value: bool) -> Counter {
+    pub fn flag(value: bool) -> Counter {
         Counter {
             kind: CounterKind::Flag,
             most: 1,
@@ -53,12 +53,12 @@ impl Counter {
     }
 
     /// Returns how many values there are.
-    pub(crate) fn values(self) -> usize {
+    pub fn values(self) -> usize {
         self.most.saturating_add(1)
     }
 
     /// Returns the value at a place of its program. The first place has the first value.
-    pub(crate) fn value(self, place: usize) -> usize {
+    pub fn value(self, place: usize) -> usize {
         self.first
             .saturating_add(place)
             .checked_rem(self.values())
@@ -66,7 +66,7 @@ impl Counter {
     }
 
     /// Returns the place of its program with this value.
-    pub(crate) fn place(self, value: usize) -> usize {
+    pub fn place(self, value: usize) -> usize {
         value
             .saturating_add(self.values())
             .saturating_sub(self.first)

@@ -7,10 +7,10 @@ use crate::fault::TextFault;
 use crate::forms::Role;
 use crate::line::{Line, Text, Written};
 use crate::line_list::LineList;
-use crate::names::NameSet;
 use crate::reading::number;
 use crate::rows::MOST;
 use crate::templates::{Filling, Template, filled};
+use crate::words::NameSet;
 use indexmap::IndexSet;
 use itoa::Buffer;
 use std::alloc::{AllocError, Global};
@@ -122,16 +122,14 @@ pub(crate) fn with_channels(
     text: &mut Text,
     lines: &[Line],
 ) -> Result<Vec<Line>, TextFault> {
+    let closed = closed(alloc, text, lines)?;
     let mut channels = Channels {
-        closed: closed(alloc, text, lines)?,
+        closed,
         names: IndexSet::new(alloc),
         channels: Vec::new(alloc),
         made: LineList::new(alloc),
     };
-    for line in lines {
-        channels.add(alloc, text, *line)?;
-    }
-    Ok(replace(&mut channels.made.lines, Vec::new(alloc)))
+    channels.take_all(alloc, text, lines)
 }
 
 /// Returns the names of the channels that some line closes, or receives from until they are closed.
@@ -160,6 +158,19 @@ fn is_move(text: &Text, word: usize, is_up: bool) -> bool {
 }
 
 impl Channels {
+    /// Adds all lines, and takes what is written out.
+    fn take_all(
+        &mut self,
+        alloc: Global,
+        text: &mut Text,
+        lines: &[Line],
+    ) -> Result<Vec<Line>, TextFault> {
+        for line in lines {
+            self.add(alloc, text, *line)?;
+        }
+        Ok(replace(&mut self.made.lines, Vec::new(alloc)))
+    }
+
     fn add(&mut self, alloc: Global, text: &mut Text, line: Line) -> Result<(), TextFault> {
         if let (Some(Role::Counter(CounterKind::Channel)), [_, name, room]) = (
             role_of(text, line),

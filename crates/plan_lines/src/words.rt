@@ -4,15 +4,18 @@ use indexmap::IndexSet;
 use itoa::Buffer;
 use std::alloc::{AllocError, Global};
 
+/// Names in the order in which they were added, each once, by the numbers of words.
+pub type NameSet = IndexSet<usize>;
+
 /// The words of a text, each once. The first are those that lines begin with, in the order of [`FORMS`].
 #[derive(Drop)]
-pub(crate) struct Words {
+pub struct Words {
     texts: IndexSet<String>,
 }
 
 impl Words {
     /// Makes no words.
-    pub(crate) fn new(alloc: Global) -> Words {
+    pub fn new(alloc: Global) -> Words {
         Words {
             texts: IndexSet::new(alloc),
         }
@@ -31,7 +34,7 @@ impl Words {
     }
 
     /// Returns the word with this number, or an empty one.
-    pub(crate) fn text(&self, number: usize) -> &str {
+    pub fn text(&self, number: usize) -> &str {
         match self.texts.get_index(number) {
             Some(text) => text.as_str(),
             None => "",
@@ -47,12 +50,7 @@ impl Words {
     }
 
     /// Returns the number of the name of a copy: `NAME.1` for the first copy of `NAME`.
-    pub(crate) fn copy(
-        &mut self,
-        alloc: Global,
-        name: &str,
-        copy: u64,
-    ) -> Result<usize, AllocError> {
+    pub fn copy(&mut self, alloc: Global, name: &str, copy: u64) -> Result<usize, AllocError> {
         let mut text = String::from_str(alloc, name)?;
         text.push_str(".")?;
         text.push_str(Buffer::new().format(copy))?;
@@ -60,7 +58,7 @@ impl Words {
     }
 
     /// Returns the number of the name of any number of parties.
-    pub(crate) fn any(&mut self, alloc: Global, name: usize) -> Result<usize, AllocError> {
+    pub fn any(&mut self, alloc: Global, name: usize) -> Result<usize, AllocError> {
         let mut text = String::from_str(alloc, self.text(name))?;
         text.push_str(".*")?;
         self.add(text)
@@ -72,11 +70,11 @@ impl Words {
     }
 
     /// Returns the form of the lines that begin with this word, if there is one.
-    pub(crate) fn form(&self, number: usize) -> Option<Form> {
+    pub fn form(&self, number: usize) -> Option<Form> {
         FORMS.get(number).copied()
     }
 
-    pub(crate) fn is(&self, number: usize, text: &str) -> bool {
+    pub fn is(&self, number: usize, text: &str) -> bool {
         self.text(number) == text
     }
 
@@ -87,7 +85,7 @@ impl Words {
     }
 
     /// Returns whether a word is the name of a party, or of any number of parties.
-    pub(crate) fn is_core_name(&self, number: usize) -> bool {
+    pub fn is_core_name(&self, number: usize) -> bool {
         let text = self.text(number);
         let name = text.strip_suffix(".*").unwrap_or(text);
         !name.is_empty() && name.as_bytes().iter().all(|byte| is_name_byte(*byte))

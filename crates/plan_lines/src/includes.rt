@@ -1,5 +1,4 @@
 //! Lines `include FILE`: the lines of a file in the place of each line that includes it.
-use crate::bad_lines::fault_of;
 use crate::fault::TextFault;
 use crate::files::{FileFault, Files};
 use crate::forms::Role;
@@ -7,7 +6,7 @@ use crate::line::{Line, Text};
 use crate::line_fault::LineFault;
 use crate::line_list::LineList;
 use crate::origin::Origin;
-use crate::scan::{Scanned, scan};
+use crate::scanning::Scanned;
 use crate::sources::Sources;
 use script_text::SCRIPT_LIMIT;
 use std::alloc::{AllocError, Global};
@@ -31,21 +30,9 @@ struct OpenFile {
     next: usize,
 }
 
-/// Scans a plan and the files that it includes, and puts the lines of a file in the place of each line that includes it. Adds the
-/// texts of the files.
-pub(crate) fn scan_all<F: Files>(
-    alloc: Global,
-    sources: &mut Sources,
-    files: &mut F,
-) -> Result<Scanned, TextFault> {
-    let mut scanned = scan(alloc, sources.text(0))?;
-    match include_all(alloc, &mut scanned, sources, files) {
-        Ok(()) => Ok(scanned),
-        Err(fault) => Err(fault),
-    }
-}
-
-fn include_all<F: Files>(
+/// Scans the files that a plan includes, and puts the lines of a file in the place of each line that includes it. Adds the texts of
+/// the files.
+pub(crate) fn include_all<F: Files>(
     alloc: Global,
     scanned: &mut Scanned,
     sources: &mut Sources,
@@ -217,5 +204,5 @@ fn bad_include(
 ) -> Result<TextFault, AllocError> {
     let origin = Origin::new(line.at, &text.origins);
     let why = fault.why_from(alloc, &text.words, origin)?;
-    fault_of(alloc, origin, 1, why)
+    TextFault::of(alloc, origin, 1, why)
 }

@@ -1,13 +1,12 @@
 //! What lines say. Names are the numbers of words.
 use crate::counter::{Counter, CounterKind};
 use crate::line::Written;
-use lock_modes::LockStep;
-use lock_plan::PlanLock;
+use lock_modes::{Kind, LockStep};
 
 /// What a line says.
 #[derive(Clone, Copy)]
-pub(crate) enum Said {
-    Lock(PlanLock, usize),
+pub enum Said {
+    Lock(LockLine, usize),
     Counter(Counter, usize),
     Condvar(usize),
     /// Parties, and whether they are servers.
@@ -55,7 +54,7 @@ pub(crate) enum Said {
 
 /// How a block receives from a channel that may be closed.
 #[derive(Clone, Copy, PartialEq, Eq)]
-pub(crate) enum Receipt {
+pub enum Receipt {
     /// If an item is there.
     Try,
     /// Once an item is there, or the channel is closed.
@@ -66,7 +65,7 @@ pub(crate) enum Receipt {
 
 /// How many parties a line makes.
 #[derive(Clone, Copy)]
-pub(crate) enum Parties {
+pub enum Parties {
     One,
     Copies(u64),
     /// Any number. The plan has one of them.
@@ -75,15 +74,15 @@ pub(crate) enum Parties {
 
 /// A look at whether a flag is true, or whether a counter is at least at this number, and the answer that it is to have.
 #[derive(Clone, Copy)]
-pub(crate) struct Look {
-    pub(crate) value: bool,
-    pub(crate) name: usize,
-    pub(crate) number: Option<usize>,
+pub struct Look {
+    pub value: bool,
+    pub name: usize,
+    pub number: Option<usize>,
 }
 
 /// What is between a look of a condition and the next one.
 #[derive(Clone, Copy, PartialEq, Eq)]
-pub(crate) enum Join {
+pub enum Join {
     And,
     Or,
     /// There is no next one.
@@ -91,18 +90,18 @@ pub(crate) enum Join {
 }
 
 /// Looks, each with what comes after it.
-pub(crate) type Looks = Vec<(Look, Join)>;
+pub type Looks = Vec<(Look, Join)>;
 
 /// A condition: where its looks are among those of all conditions.
 #[derive(Clone, Copy)]
-pub(crate) struct Condition {
-    pub(crate) first: usize,
-    pub(crate) end: usize,
+pub struct Condition {
+    pub first: usize,
+    pub end: usize,
 }
 
 impl Condition {
     /// Returns the looks of the condition among those of all conditions.
-    pub(crate) fn looks(self, all: &[(Look, Join)]) -> &[(Look, Join)] {
+    pub fn looks(self, all: &[(Look, Join)]) -> &[(Look, Join)] {
         if self.first <= self.end && self.end <= all.len() {
             &all[self.first..self.end]
         } else {
@@ -111,12 +110,22 @@ impl Condition {
     }
 }
 
+/// What a line says of the lock that it declares.
+#[derive(Clone, Copy)]
+pub struct LockLine {
+    pub kind: Kind,
+    /// The limit of readers or levels, and 1 for a mutex.
+    pub limit: u64,
+    pub bar: bool,
+    pub fair: bool,
+}
+
 /// A wait on a condition variable.
 #[derive(Clone, Copy)]
-pub(crate) struct WaitLine {
-    pub(crate) condvar: usize,
-    pub(crate) mutex: usize,
+pub struct WaitLine {
+    pub condvar: usize,
+    pub mutex: usize,
     /// The party waits again and again until this is so.
-    pub(crate) until: Option<Condition>,
-    pub(crate) is_timed: bool,
+    pub until: Option<Condition>,
+    pub is_timed: bool,
 }

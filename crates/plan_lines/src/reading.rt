@@ -3,10 +3,9 @@ use crate::counter::{Counter, CounterKind};
 use crate::forms::Role;
 use crate::line::Written;
 use crate::rows::{MOST, count};
-use crate::said::{Condition, Join, Look, Looks, Parties, Receipt, Said, WaitLine};
+use crate::said::{Condition, Join, LockLine, Look, Looks, Parties, Receipt, Said, WaitLine};
 use crate::words::Words;
 use lock_modes::{Kind, LockStep, Mode, ModeStep};
-use lock_plan::PlanLock;
 use script_text::unsigned;
 use std::alloc::AllocError;
 
@@ -14,7 +13,7 @@ use std::alloc::AllocError;
 const MOST_PARAMETERS: usize = 64;
 
 /// Reads a line of these words, or returns `None` for one that is not in the format. Adds the looks of its condition to `looks`.
-pub(crate) fn read(
+pub fn read(
     words: &Words,
     looks: &mut Looks,
     fields: &[usize],
@@ -119,7 +118,7 @@ fn lock(words: &Words, kind: Kind, fields: &[usize]) -> Option<Said> {
         [word] if !kind.is_reentrant() && words.is(*word, "fair") => (false, true),
         _ => return None,
     };
-    let lock = PlanLock {
+    let lock = LockLine {
         kind,
         limit,
         bar,

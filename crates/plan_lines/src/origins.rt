@@ -5,14 +5,14 @@ use std::alloc::{AllocError, Global};
 
 /// The lines of the calls that are written out, and the names of the included files.
 #[derive(Drop)]
-pub(crate) struct Origins {
+pub struct Origins {
     /// Each call may be in another one before it.
-    pub(crate) calls: Vec<LineAt>,
+    pub calls: Vec<LineAt>,
     files: IndexSet<String>,
 }
 
 impl Origins {
-    pub(crate) fn new(alloc: Global) -> Origins {
+    pub fn new(alloc: Global) -> Origins {
         Origins {
             calls: Vec::new(alloc),
             files: IndexSet::new(alloc),
@@ -31,7 +31,7 @@ impl Origins {
     }
 
     /// Returns the number of a file, from 1, which is added if it is new.
-    pub(crate) fn add_file(&mut self, alloc: Global, name: &str) -> Result<usize, AllocError> {
+    pub fn add_file(&mut self, alloc: Global, name: &str) -> Result<usize, AllocError> {
         let before = match self.files.get_index_of(name) {
             Some(before) => before,
             None => {
@@ -43,7 +43,7 @@ impl Origins {
     }
 
     /// Adds the calls and the files of others, where none are yet.
-    pub(crate) fn add_all(&mut self, alloc: Global, others: &Origins) -> Result<(), AllocError> {
+    pub fn add_all(&mut self, alloc: Global, others: &Origins) -> Result<(), AllocError> {
         self.calls.extend_from_slice(others.calls.as_slice())?;
         for name in others.files.as_slice() {
             self.add_file(alloc, name.as_str())?;
