@@ -40,5 +40,5 @@ def with_below(names):
 
 def copy_crate(source, target):
     """Copies a crate without its edits and without what commands left in its out/. What stands in `target` stays."""
-    own = lambda folder, _: ["must-fail", "out"] if folder == str(source) else []
+    own = lambda folder, _: ["more-edits", "out"] if folder == str(source) else []
     shutil.copytree(source, target, ignore=own, dirs_exist_ok=True)
