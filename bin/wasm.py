@@ -9,7 +9,8 @@ import re
 import subprocess
 import tempfile
 
-from crates import ROOT, deps_of, with_below
+from crates import ROOT
+from prover import build_archive, kit_folder
 
 CRATE = "lock_page"
 HEAP = ROOT / "web/heap.c"
@@ -34,7 +35,7 @@ def call(*words, **how):
 
 
 def proved_code(kit, room):
-    """The code of the crate in LLVM's form, after its proof, from the work of an earlier `rt lib`."""
+    """The code of the crate in LLVM's form, after its proof."""
     tools = room / "toolchain"
     (tools / "bin").mkdir(parents=True)
     (tools / "lib").symlink_to(kit / "toolchain/lib")
@@ -44,13 +45,7 @@ def proved_code(kit, room):
     clang.unlink()
     clang.write_text(CLANG.format(room=room, clang=kit / "toolchain/bin/clang"), encoding="utf-8")
     clang.chmod(0o755)
-    below = with_below([CRATE])
-    rlib = lambda it: f"{ROOT}/crates/{it}/out/rlib/{it}.rlib" if it in below else f"{kit}/rlibs/{it}.rlib"
-    words = [f"--extern={it}={rlib(it)}" for it in ["std", *deps_of(below[CRATE])]]
-    words += [f"-Ldependency={folder}" for folder in [f"{kit}/rlibs", *(f"{ROOT}/crates/{it}/out/rlib" for it in below if it != CRATE)]]
-    words += [f"--antt-project={kit}/rattle/logic/antt-project.json", f"--logic-built={kit}/logic_built", "--incremental=out/incremental"]
-    words += ["--crate-type=staticlib", f"--links={CRATE}=", f"--toolchain={tools}", "-o", room / "native.a"]
-    call(kit / "bin/rattle", "build", "--crate-name", CRATE, "src/lib.rt", *words, cwd=ROOT / "crates" / CRATE)
+    build_archive(CRATE, room / "native.a", toolchain=tools)
     return call(kit / "toolchain/bin/clang", "-xir", room / "module.bc", "-S", "-emit-llvm", "-Xclang", "-disable-llvm-passes", "-o", "-")
 
 
@@ -64,7 +59,7 @@ def for_wasm(code, layout):
 
 def module():
     """The bytes of the module, after a proof."""
-    kit = pathlib.Path(call("rt", "doc").strip()).parent
+    kit = kit_folder()
     clang = [kit / "toolchain/bin/clang", *TARGET]
     with tempfile.TemporaryDirectory() as folder:
         room = pathlib.Path(folder)
