@@ -39,7 +39,8 @@ def build_archive(name, archive, *words, toolchain=None):
     if why:
         sys.exit(why)
     words = [*words_of(name, kit), "--crate-type=staticlib", f"--toolchain={toolchain or kit / 'toolchain'}", "--incremental=out/incremental", *words]
-    ran = subprocess.run([f"{kit}/bin/rattle", "build", *words, "-o", archive], cwd=ROOT / "crates" / name, stdout=subprocess.PIPE, encoding="utf-8", check=False)
+    how = {"stdout": subprocess.PIPE, "stderr": subprocess.STDOUT, "encoding": "utf-8", "check": False}
+    ran = subprocess.run([f"{kit}/bin/rattle", "build", *words, "-o", archive], cwd=ROOT / "crates" / name, **how)
     if ran.returncode:
         sys.exit(f"{ran.stdout[-2000:]}\n{name} was not built")
 
